@@ -1,0 +1,109 @@
+-- Laws of zeros past the entries: filling, zeroing and moving to the front, one store at a time.
+use Prim.Native.Nat.{ℕ, zero, suc, _+_, _-_, _≤_, _<_, min}
+use native.Mathlib.Numerals.{add-one}
+use native.Mathlib.Nat.{not-suc-le-zero, le-of-suc-le-suc}
+use native.Mathlib.Omega.{arith}
+use mathlib.Core.Path.{_≡_, refl, sym, ap, _∙_}
+use mathlib.Core.Logic.{inl, inr}
+use mathlib.Core.List.{List, [], _∷_, _++_, append-nil, append-assoc}
+use lib.ListN.{length, take, drop, getD, set, replicate, length-append, length-set, length-take, length-replicate, drop-of-length-le, take-append-drop}
+use lib.Seq.{slice, take-suc-set, take-all, take-length, take-set-lt, drop-set-lt, drop-cons, getD-take, set-append-left}
+use Rattle.ieee.proofs.Round.{split}
+use Rattle.column.specs.Entries.{filled, zeroFrom, moveFront, zeroRange}
+
+module _ {A : Type 0} where
+  -- within a list the default does not matter
+  pub getD-within : (l : List A) (i : ℕ) (a b : A) → i < length l → getD l i a ≡ getD l i b
+  getD-within [] i a b h = absurd (not-suc-le-zero h)
+  getD-within (x ∷ l) zero a b h = refl
+  getD-within (x ∷ l) (suc i) a b h = getD-within l i a b (le-of-suc-le-suc h)
+
+  pub take-min : (n : ℕ) (l : List A) → take (min n (length l)) l ≡ take n l
+  take-min n l = elim (split n (length l)) [
+    | inl h ↦ let e : min n (length l) ≡ n = omega arith in rw e
+    | inr h ↦ let e : min n (length l) ≡ length l = omega arith in rw e (take-length l ∙ sym (take-all n l h))
+  ]
+
+module _ {A : Type 0} (z : A) where
+  -- ---- filled
+  pub length-filled : (n : ℕ) (es : List A) → length es ≤ n → length (filled z n es) ≡ n
+  unfolding filled
+  length-filled n es h = length-append es (replicate (n - length es) z) ∙ omega (arith, length-replicate (n - length es) z)
+
+  pub set-filled : (n : ℕ) (es : List A) (i : ℕ) (a : A) → i < length es → set (filled z n es) i a ≡ filled z n (set es i a)
+  unfolding filled
+  set-filled n es i a h = set-append-left es (replicate (n - length es) z) i a h ∙ ap (λ (k : ℕ). set es i a ++ replicate (n - k) z) (sym (length-set es i a))
+
+  -- ---- from a place to the end
+  pub zero-is : (i : ℕ) (l : List A) → zeroFrom z i l ≡ take i l ++ replicate (length l - i) z
+  unfolding zeroFrom filled
+  zero-is i l =
+      let e : length l - length (take i l) ≡ length l - i = omega (arith, length-take i l) in
+      rw e
+
+  zero-one : (l : List A) (i : ℕ) → i < length l → take (i + 1) (set l i z) ++ replicate (length (set l i z) - (i + 1)) z ≡ take i l ++ replicate (length l - i) z
+  zero-one l i h =
+      let e : length l - i ≡ suc (length l - (i + 1)) = omega arith in
+      rw (length-set, add-one, take-suc-set, append-assoc, e, add-one)
+
+  -- one entry is zeroed, and the rest is left to do
+  pub zero-more : (l : List A) (i : ℕ) → i < length l → zeroFrom z (i + 1) (set l i z) ≡ zeroFrom z i l
+  zero-more l i h = zero-is (i + 1) (set l i z) ∙ zero-one l i h ∙ sym (zero-is i l)
+
+  -- nothing is left
+  pub zero-none : (l : List A) (i : ℕ) → length l ≤ i → zeroFrom z i l ≡ l
+  zero-none l i h =
+      let e : length l - i ≡ 0 = omega arith in
+      zero-is i l ∙ rw (e, take-all i l) (append-nil l)
+
+  -- ---- a stretch
+  -- one entry is zeroed, and the rest of the stretch is left to do
+  pub range-more : (l : List A) (i to : ℕ) → i < to → i < length l → zeroRange z (i + 1) to (set l i z) ≡ zeroRange z i to l
+  unfolding zeroRange
+  range-more l i to h k =
+      let m = min to (length l) - (i + 1) in
+      let e : min to (length l) - i ≡ suc m = omega arith in
+      let f : i + suc m ≡ i + 1 + m = omega arith in
+      let g : i < i + 1 + m = omega arith in
+      rw (length-set, e, f, drop-set-lt (i + 1 + m) l i z, add-one, take-suc-set) (simp append-assoc)
+
+  -- nothing of the stretch is left
+  pub range-none : (l : List A) (i to : ℕ) → min to (length l) ≤ i → zeroRange z i to l ≡ l
+  unfolding zeroRange
+  range-none l i to h =
+      let e : min to (length l) - i ≡ 0 = omega arith in
+      let f : i + 0 ≡ i = omega arith in
+      rw (e, f) (take-append-drop i l)
+
+  -- a stretch that lies inside
+  pub range-inside : (l : List A) (from to : ℕ) → from ≤ to → to ≤ length l → zeroRange z from to l ≡ take from l ++ (replicate (to - from) z ++ drop to l)
+  unfolding zeroRange
+  range-inside l from to h k =
+      let e : min to (length l) ≡ to = omega arith in
+      let f : from + (to - from) ≡ to = omega arith in
+      rw (e, f)
+
+  -- ---- to the front
+  -- the entry at j is stored at i, not after it
+  pub move-more : (l : List A) (i j to : ℕ) (d : A) → i ≤ j → j < to → j < length l
+      → take (i + 1) (set l i (getD l j d)) ++ slice (j + 1) to (set l i (getD l j d)) ≡ take i l ++ slice j to l
+  move-more l i j to d h k m =
+      let a : i < length l = omega arith in
+      let b : i < to = omega arith in
+      let e : i < suc j = omega arith in
+      let t : j < length (take to l) = rw length-take (omega arith) in
+      rw (add-one, add-one, take-suc-set, take-set-lt, drop-set-lt, append-assoc, drop-cons (take to l) j d, getD-take)
+
+  -- nothing is left to move
+  move-none : (l : List A) (j to : ℕ) → min to (length l) ≤ j → slice j to l ≡ []
+  move-none l j to h =
+      let t : length (take to l) ≤ j = rw length-take h in
+      drop-of-length-le (take to l) t
+
+  -- the front is what was to be kept
+  pub move-done : (l l₀ : List A) (i j from to : ℕ) → length l ≡ length l₀ → i ≤ length l → min to (length l) ≤ j
+      → take i l ++ slice j to l ≡ slice from to l₀ → zeroFrom z i l ≡ moveFront z from to l₀
+  unfolding zeroFrom moveFront
+  move-done l l₀ i j from to e h k p =
+      let q : slice from to l₀ ≡ take i l = sym p ∙ rw (move-none l j to k) (append-nil (take i l)) in
+      rw (q, e)

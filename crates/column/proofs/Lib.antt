@@ -1,0 +1,6 @@
+-- Laws of the definitions, for any element and any layout of records.
+pub mod Filling
+pub mod Gaps
+pub mod Finite
+pub mod Entry
+pub mod Bridge

@@ -1,0 +1,57 @@
+-- `put_four`: one entry after the other.
+use mathlib.Core.Path.{sym}
+use native.Mathlib.Omega.{arith}
+use Rattle.column.specs.Records.{four}
+use Rattle.column.proofs.Entry.{four-put, put-past}
+use borrow.Author.Needs.{needs}
+use Rattle.column.proofs.words.put_four.Statement.{statement}
+use Rattle.column.proofs.words.put_four.Tie as tie
+
+mul-k : tie.Need-mul-k
+mul-k c = search needs
+
+set-requires : tie.Need-set-requires
+set-requires c κs = search needs
+
+add-set : tie.Need-add-set
+add-set c = search needs
+
+set-requires-2 : tie.Need-set-requires-2
+set-requires-2 c κs = search needs
+
+add-set-2 : tie.Need-add-set-2
+add-set-2 c = search needs
+
+set-requires-3 : tie.Need-set-requires-3
+set-requires-3 c κs = search needs
+
+add-set-3 : tie.Need-add-set-3
+add-set-3 c = search needs
+
+set-requires-4 : tie.Need-set-requires-4
+set-requires-4 c κs = search needs
+
+same-length : tie.Need-same-length
+same-length c = search needs
+
+returns : tie.Need-returns
+returns c = cc (four-put (c .before .before .before .before .before .before .before .before .before .before .before .before .before .before .before .before .before .before .args .col .now) (c .before .before .before .before .before .before .before .before .before .before .before .before .before .before .before .before .before .before .args .i) (c .before .before .before .before .before .before .before .before .before .before .before .before .before .before .before .before .before .before .args .r))
+
+returns-2 : tie.Need-returns-2
+returns-2 c = sym (put-past four (c .before .before .args .col .now) (c .before .before .args .i) (c .before .before .args .r) (omega arith))
+
+pub put-four-spec : {M : Type 1} → statement M
+put-four-spec =
+    tie.close
+    (tie.spec
+    mul-k
+    set-requires
+    add-set
+    set-requires-2
+    add-set-2
+    set-requires-3
+    add-set-3
+    set-requires-4
+    same-length
+    returns
+    returns-2)

@@ -1,0 +1,3 @@
+-- The definitions of the crate `column`: columns as lists of entries, and as lists of records.
+pub mod Entries
+pub mod Records

@@ -1,0 +1,2 @@
+-- What the operations of the Rust give.
+pub mod Computed
