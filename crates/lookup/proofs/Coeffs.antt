@@ -1,0 +1,81 @@
+-- Grade and curve records in a column: the layout is lawful, an entry is a record's offset, and question 1 entry by entry.
+use Prim.Native.Nat.{ℕ, suc, _+_, _-_, _*_, _≤_, _<_}
+use native.Mathlib.Omega.{arith}
+use native.Mathlib.Nat.{add-zero}
+use mathlib.Core.Path.{_≡_, refl, sym, ap, ap₂, _∙_}
+use mathlib.Core.Bool.{Bool, true, false, _&&_}
+use mathlib.Core.List.{List, [], _∷_}
+use lib.ListN.{length, take, drop, getD, drop-of-length-le}
+use lib.Seq.{take-all, drop-cons, getD-drop}
+use lib.Ieee.{Float, nan, div, ofBits, binary64}
+use lib.Ieee.Scale.{finite}
+use Rattle.ieee.specs.Number.{+0, +∞, allFinite}
+use Rattle.column.specs.Records.{recordAt}
+use Rattle.column.proofs.Filling.{getD-within}
+use Rattle.column.proofs.Bridge.{Lawful, record-at}
+use Rattle.lookup.specs.Coeff.{triple, coeffs, noCoeff, standsAt, offsetAt, closesWell, closingFinite, coeffsFinite}
+
+pub triple-lawful : Lawful triple
+triple-lawful = record { length-pack = λ g. refl; unpack-pack = λ g l. refl; pack-unpack = back }
+  where
+    back : (l : List Float) → 3 ≤ length l → triple .pack (triple .unpack l) ≡ take 3 l
+    back [] h = absurd (omega arith)
+    back (a ∷ []) h = absurd (omega arith)
+    back (a ∷ b ∷ []) h = absurd (omega arith)
+    back (a ∷ b ∷ c ∷ l) h = refl
+
+-- 1.0 / 0.0
+pub infinity : div binary64 (ofBits binary64 4607182418800017408) (ofBits binary64 0) ≡ +∞
+unfolding div ofBits
+infinity = refl
+
+-- the entry at 3 i is the offset of record i
+pub offset-entry : (n : ℕ) (c : List Float) (i : ℕ) → i < n → 3 * n ≤ length c → getD c (3 * i) nan ≡ offsetAt (coeffs n c) i
+unfolding recordAt
+offset-entry n c i h k =
+    getD-within c (3 * i) nan +0 (omega arith)
+    ∙ sym (ap standsAt (record-at triple triple-lawful n c i noCoeff h) ∙ getD-drop (3 * i) c 0 +0 ∙ ap (λ (j : ℕ). getD c j +0) (add-zero (3 * i)))
+
+-- ---- question 1
+and-true : (a : Bool) → (a && true) ≡ a
+and-true true = refl
+and-true false = refl
+
+-- one record or more
+finite-some : (closes : Bool) (n : ℕ) (c : List Float) → 0 < n → coeffsFinite closes n c ≡ (allFinite (take (3 * (n - 1)) c) && closingFinite closes (take 3 (drop (3 * (n - 1)) c)))
+unfolding coeffsFinite
+finite-some closes n c h =
+    let e : n ≡ suc (n - 1) = omega arith in
+    ap (λ (k : ℕ). coeffsFinite closes k c) e
+
+-- the column ends before the last record
+pub finite-short : (closes : Bool) (n : ℕ) (c : List Float) → 0 < n → length c ≤ 3 * (n - 1) → coeffsFinite closes n c ≡ allFinite c
+unfolding closingFinite
+finite-short closes n c h k =
+    let m = 3 * (n - 1) in
+    finite-some closes n c h
+    ∙ ap₂ (λ (a b : List Float). allFinite a && closingFinite closes (take 3 b)) (take-all m c k) (drop-of-length-le c k)
+    ∙ and-true (allFinite c)
+
+-- the two entries after the last offset, as far as they are there
+rest-finite : (l : List Float) → allFinite (take 2 l) ≡ (finite (getD l 0 +0) && finite (getD l 1 +0))
+unfolding allFinite
+rest-finite [] = refl
+rest-finite (a ∷ []) = refl
+rest-finite (a ∷ b ∷ l) = ap (λ (t : Bool). finite a && t) (and-true (finite b))
+
+closing-entries : (closes : Bool) (c : List Float) (k : ℕ) → k < length c
+    → closingFinite closes (take 3 (drop k c)) ≡ (closesWell closes (getD c k nan) && (finite (getD c (k + 1) +0) && finite (getD c (k + 2) +0)))
+unfolding closingFinite
+closing-entries closes c k h =
+    let r = drop (suc k) c in
+    let a : getD r 0 +0 ≡ getD c (k + 1) +0 = getD-drop (suc k) c 0 +0 ∙ ap (λ (j : ℕ). getD c j +0) (omega arith) in
+    let b : getD r 1 +0 ≡ getD c (k + 2) +0 = getD-drop (suc k) c 1 +0 ∙ ap (λ (j : ℕ). getD c j +0) (omega arith) in
+    ap (λ (l : List Float). closingFinite closes (take 3 l)) (drop-cons c k nan h)
+    ∙ ap (λ (t : Bool). closesWell closes (getD c k nan) && t) (rest-finite r ∙ ap₂ (λ (x y : Float). finite x && finite y) a b)
+
+-- the last record begins inside the column
+pub finite-entries : (closes : Bool) (n : ℕ) (c : List Float) → 0 < n → 3 * (n - 1) < length c
+    → coeffsFinite closes n c
+    ≡ (allFinite (take (3 * (n - 1)) c) && (closesWell closes (getD c (3 * (n - 1)) nan) && (finite (getD c (3 * (n - 1) + 1) +0) && finite (getD c (3 * (n - 1) + 2) +0))))
+finite-entries closes n c h k = finite-some closes n c h ∙ ap (λ (b : Bool). allFinite (take (3 * (n - 1)) c) && b) (closing-entries closes c (3 * (n - 1)) k)

@@ -1,0 +1,45 @@
+-- The search from a hint: document 01, lin_search_hint.rs and path_res_coeff.rs, `calc_idx`. Total on every list. Definitions only.
+use Prim.Native.Nat.{ℕ, zero, suc, _+_, _-_}
+use mathlib.Core.Bool.{Bool, cond}
+use mathlib.Core.List.{List, [], _∷_}
+use lib.Dec.{ltb}
+use lib.ListN.{length, drop}
+use lib.Ieee as Ieee
+use lib.Ieee.{Float}
+use Rattle.lookup.specs.declared.lin_search_hint.Dir.{Dir}
+use Rattle.lookup.specs.declared.lin_search_hint.Dir.the-variants.{Unk, Fwd, Bwd}
+use Rattle.lookup.specs.declared.path_res_coeff.PathResCoeff.{PathResCoeff}
+use Rattle.lookup.specs.Coeff.{standsAt, offsetAt}
+
+-- how many records at the front are before x
+unfoldable pub countBefore : Float → List PathResCoeff → ℕ
+countBefore x [] = 0
+countBefore x (g ∷ rs) = cond (Ieee.lt (standsAt g) x) (suc (countBefore x rs)) 0
+
+-- "Fwd and Unk: the first record from the hint on whose successor is not before the offset; never back."
+unfoldable pub forwards : Float → ℕ → List PathResCoeff → ℕ
+unfolding countBefore
+forwards x hint rs = hint + countBefore x (drop (suc hint) rs)
+
+-- "Bwd: the last record up to the hint that is not after the offset."
+unfoldable pub backwards : Float → ℕ → List PathResCoeff → ℕ
+backwards x zero rs = zero
+backwards x (suc i) rs = cond (Ieee.lt x (offsetAt rs (suc i))) (backwards x i rs) (suc i)
+
+unfoldable pub searched : Dir → Float → ℕ → List PathResCoeff → ℕ
+unfolding forwards backwards
+searched Unk x hint rs = forwards x hint rs
+searched Fwd x hint rs = forwards x hint rs
+searched Bwd x hint rs = backwards x hint rs
+
+-- question 10: "a Fwd or Unk search not past the last record; a Bwd one not before the first"
+unfoldable pub inRange : Dir → Float → List PathResCoeff → Bool
+inRange Unk x rs = Ieee.le x (offsetAt rs (length rs - 1))
+inRange Fwd x rs = Ieee.le x (offsetAt rs (length rs - 1))
+inRange Bwd x rs = Ieee.le (offsetAt rs 0) x
+
+-- question 11: "Fwd, Unk below the last index; Bwd an index"
+unfoldable pub hintAllowed : Dir → ℕ → List PathResCoeff → Bool
+hintAllowed Unk hint rs = ltb (suc hint) (length rs)
+hintAllowed Fwd hint rs = ltb (suc hint) (length rs)
+hintAllowed Bwd hint rs = ltb hint (length rs)
