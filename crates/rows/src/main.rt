@@ -1,0 +1,150 @@
+// Document 01's rows, run through the code and printed as it answers them.
+use libc::STDOUT_FILENO;
+use lookup::calc_idx::calc_idx;
+use lookup::lin_search_hint::Dir;
+use lookup::lin_search_hint::Found;
+use si::Length;
+use si::Velocity;
+use speed::insert_speed::insert_speed;
+use speed::speed_limit::SpeedLimit;
+use speed::speed_point::offset_at;
+ghost use Prim.Native.Nat.{_<_};
+
+fn say(text: &[u8]) {
+    io::write_all(STDOUT_FILENO, text);
+}
+
+// A whole number with its sign, or a question mark.
+fn number(x: f64) {
+    if ieee::is_negative(x) {
+        say(b"-");
+    }
+    let m = ieee::size(x);
+    if m < 1000000.0 {
+        io::print_decimal(STDOUT_FILENO, std::num::truncating_f64_to_u64(m));
+    } else {
+        say(b"?");
+    }
+}
+
+// The first n points of a column.
+fn points(col: &[f64], n: usize) {
+    let mut i = 0;
+    while i < n {
+        let p = column::floats::two_at(col, i);
+        say(b" (");
+        number(p.0);
+        say(b",");
+        number(p.1);
+        say(b")");
+        i += 1;
+    }
+    say(b"\n");
+}
+
+// Lays a limit on the n points of a column that has room, and zeros past them.
+fn lay(col: &mut [f64], n: usize, l: SpeedLimit) -> usize {
+    if n == 0 {
+        return n;
+    }
+    if col.len() / 2 < n {
+        return n;
+    }
+    if col.len() / 2 - n < 2 {
+        return n;
+    }
+    if offset_at(col, n, 0).0 <= l.offset_start.0 {
+        column::floats::zero_from(&mut *col, 2 * n);
+        return insert_speed(&mut *col, n, l);
+    }
+    n
+}
+
+// One row of the S rows; the count of points afterwards.
+fn s_row(name: &[u8], col: &mut [f64], n: usize, from: f64, to: f64, at: f64) -> usize {
+    say(name);
+    let m = lay(
+        &mut *col,
+        n,
+        SpeedLimit {
+            offset_start: Length(from),
+            offset_end: Length(to),
+            speed: Velocity(at),
+        },
+    );
+    points(col, m);
+    m
+}
+
+// The one point (0,30).
+fn one_point() -> [f64; 16] {
+    let mut a = [0.0; 16];
+    a[1] = 30.0;
+    a
+}
+
+// The points (0,30) and (100,20).
+fn two_points() -> [f64; 16] {
+    let mut a = one_point();
+    a[2] = 100.0;
+    a[3] = 20.0;
+    a
+}
+
+// A row that starts from (0,30),(100,20).
+fn from_two(name: &[u8], from: f64, to: f64, at: f64) {
+    let mut a = two_points();
+    s_row(name, &mut a, 2, from, to, at);
+}
+
+fn s_rows() {
+    let mut a = one_point();
+    let n = s_row(b"S1", &mut a, 1, 20.0, 40.0, 15.0);
+    s_row(b"S2", &mut a, n, 40.0, 60.0, 15.0);
+    let mut b = one_point();
+    s_row(b"S3", &mut b, 1, 0.0, 10.0, 20.0);
+    from_two(b"S4", 20.0, 40.0, 15.0);
+    from_two(b"S5", 20.0, 100.0, 15.0);
+    from_two(b"S6", 50.0, 150.0, 25.0);
+    from_two(b"S7", 50.0, 150.0, 10.0);
+    let mut c = one_point();
+    s_row(b"S8", &mut c, 1, 5.0, 9.0, -12.0);
+}
+
+// What a lookup answers: the index, or the number of the refusal.
+fn told(f: Found) {
+    match f {
+        Found::At(i) => {
+            say(b" ");
+            io::print_decimal(STDOUT_FILENO, i as u64);
+        }
+        Found::NotFinite => say(b" refused with 1"),
+        Found::NotSound => say(b" refused with 2"),
+        Found::OutOfRange => say(b" refused with 10"),
+        Found::BadHint => say(b" refused with 11"),
+    }
+    say(b"\n");
+}
+
+// One row of the L rows, over records at 0, 100 and 250.
+fn l_row(name: &[u8], offset: f64, hint: usize, dir: Dir) {
+    let mut list = [0.0; 9];
+    list[3] = 100.0;
+    list[6] = 250.0;
+    say(name);
+    told(calc_idx(&list, 3, Length(offset), hint, dir));
+}
+
+fn l_rows() {
+    l_row(b"L1", 100.0, 0, Dir::Fwd);
+    l_row(b"L2", 101.0, 0, Dir::Fwd);
+    l_row(b"L3", 100.0, 2, Dir::Bwd);
+    l_row(b"L4", 50.0, 1, Dir::Fwd);
+    l_row(b"L5", 100.0, 2, Dir::Fwd);
+    l_row(b"L6", 251.0, 0, Dir::Fwd);
+}
+
+fn main() {
+    s_rows();
+    l_rows();
+}

@@ -1,0 +1,42 @@
+-- `kept_from`: the point found is at X, or else the one before it stays.
+use mathlib.Core.Path.{sym}
+use native.Mathlib.Omega.{arith}
+use mathlib.Core.Logic.{⊎-elim}
+use Rattle.speed.specs.Column.{points}
+use Rattle.speed.proofs.Held.{length-points}
+use Rattle.speed.proofs.Cleared.{kept-at, kept-before}
+use borrow.Author.Needs.{needs}
+use Rattle.speed.proofs.clear.kept_from.Statement.{statement}
+use Rattle.speed.proofs.clear.kept_from.Tie as tie
+
+first-from-requires : tie.Need-first-from-requires
+first-from-requires c κs = search needs
+
+offset-at-requires : tie.Need-offset-at-requires
+offset-at-requires c κs = search needs
+
+returns : tie.Need-returns
+returns c =
+    let a = c .before .before .before .before .before .before .before .args in
+    let l = length-points (a .n) (a .col .now) in
+    sym (kept-at (a .x .0) (points (a .n) (a .col .now)) (c .before .before .before .before .before .first-from .result) (c .before .before .before .before .before .first-from .ensures) (omega arith) (cc))
+
+returns-2 : tie.Need-returns-2
+returns-2 c =
+    let a = c .before .before .before .before .args in
+    let l = length-points (a .n) (a .col .now) in
+    omega (arith, kept-before (a .x .0) (points (a .n) (a .col .now)) (c .before .before .first-from .result) (c .before .before .first-from .ensures) λ g. ⊎-elim (λ w. cc) (λ w. absurd (omega arith)) (c .before .if1 .came))
+
+sub-result : tie.Need-sub-result
+sub-result c = search needs
+
+returns-3 : tie.Need-returns-3
+returns-3 c =
+    let a = c .before .before .before .before .args in
+    let l = length-points (a .n) (a .col .now) in
+    omega (arith, kept-before (a .x .0) (points (a .n) (a .col .now)) (c .before .before .first-from .result) (c .before .before .first-from .ensures) λ g. ⊎-elim (λ w. cc) (λ w. absurd (omega arith)) (c .before .if1 .came))
+
+pub kept-from-spec : {M : Type 1} → statement M
+kept-from-spec =
+    tie.close
+    (tie.spec first-from-requires offset-at-requires returns returns-2 sub-result returns-3)

@@ -1,0 +1,120 @@
+-- `lay_start`: by whether the start gets a point of its own.
+use mathlib.Core.Path.{_≡_, sym, ap, _∙_}
+use Prim.Native.Nat.{_+_, _-_}
+use native.Mathlib.Omega.{arith}
+use lib.Ieee.{Float}
+use Rattle.ieee.specs.Speed.{minSpeed}
+use Rattle.column.specs.Entries.{insertAt}
+use Rattle.speed.specs.Points.{point, speedAt}
+use Rattle.speed.specs.Column.{points}
+use Rattle.speed.specs.Insert.{layEnd, layStart}
+use Rattle.speed.proofs.Held.{next-inserted, leaves-at}
+use Rattle.speed.proofs.Steps.{start-laid, start-same, start-kept}
+use borrow.Author.Needs.{needs}
+use Rattle.speed.proofs.insert_speed.lay_start.Statement.{statement}
+use Rattle.speed.proofs.insert_speed.lay_start.Tie as tie
+
+offset-at-requires : tie.Need-offset-at-requires
+offset-at-requires c κs = search needs
+
+sub-speed-at : tie.Need-sub-speed-at
+sub-speed-at c = c .before .before .before .before .before .before .before .before .before .before .pre .1 .1 .1 .1 (cc)
+
+speed-at-requires : tie.Need-speed-at-requires
+speed-at-requires c κs = search needs
+
+min-speed-requires : tie.Need-min-speed-requires
+min-speed-requires c κs = search needs
+
+insert-point-requires : tie.Need-insert-point-requires
+insert-point-requires c κs = (omega arith, (omega arith, c .before .before .before .before .before .before .before .before .before .before .before .before .before .before .before .before .pre .1 .1 .1 .0))
+
+add-lay-end : tie.Need-add-lay-end
+add-lay-end c = search needs
+
+add-lay-end-2 : tie.Need-add-lay-end-2
+add-lay-end-2 c = search needs
+
+add-lay-end-3 : tie.Need-add-lay-end-3
+add-lay-end-3 c = search needs
+
+lay-end-requires : tie.Need-lay-end-requires
+lay-end-requires c κs =
+    let a = c .before .before .before .before .before .before .before .before .before .before .before .before .before .before .before .before .before .before .before .before .args in
+    let next = next-inserted (a .col .now) (c .before .before .before .insert-point .last .0) (a .n) (a .i) (point (a .l .«offset_start» .0) (c .before .before .before .before .before .before .before .before .min-speed .result .0)) (c .before .before .before .insert-point .ensures) in
+    (omega arith, (omega arith, (omega (arith, c .before .before .before .insert-point .kept .0), next .1)))
+
+same-length : tie.Need-same-length
+same-length c = search needs
+
+returns : tie.Need-returns
+returns c =
+    let a = c .before .before .before .before .before .before .before .before .before .before .before .before .before .before .before .before .before .before .before .before .before .before .before .args in
+    let ps = points (a .n) (a .col .now) in
+    let s = a .l .«offset_start» .0 in
+    let e = a .l .«offset_end» .0 in
+    let v = a .l .speed .0 in
+    let d = c .before .before .before .before .before .before .insert-point .last .0 in
+    let w = c .before .before .before .before .before .before .before .before .before .before .before .min-speed .result .0 in
+    let f : w ≡ minSpeed (speedAt ps (a .i - 1)) v = cc in
+    let next = next-inserted (a .col .now) d (a .n) (a .i) (point s w) (c .before .before .before .before .before .before .insert-point .ensures) in
+    leaves-at (c .before .before .lay-end .last .0) (c .before .before .lay-end .result) (layEnd e v (a .i + 1) (a .j + 1) (points (a .n + 1) d)) (layStart s e v (a .i) (a .j) ps)
+    (c .before .before .lay-end .ensures)
+    (ap (layEnd e v (a .i + 1) (a .j + 1)) (next .0 ∙ ap (λ (x : Float). insertAt (a .i) (point s x) ps) f)
+    ∙ sym (start-laid s e v (a .i) (a .j) ps (cc) (cc)))
+
+lay-end-requires-2 : tie.Need-lay-end-requires-2
+lay-end-requires-2 c κs = (omega arith, (omega arith, (omega arith, c .before .before .before .before .before .before .before .before .before .before .before .before .before .before .before .before .pre .1 .1 .1 .0)))
+
+same-length-2 : tie.Need-same-length-2
+same-length-2 c = search needs
+
+returns-2 : tie.Need-returns-2
+returns-2 c =
+    let a = c .before .before .before .before .before .before .before .before .before .before .before .before .before .before .before .before .before .before .before .args in
+    let ps = points (a .n) (a .col .now) in
+    let s = a .l .«offset_start» .0 in
+    let e = a .l .«offset_end» .0 in
+    let v = a .l .speed .0 in
+    leaves-at (c .before .before .lay-end2 .last .0) (c .before .before .lay-end2 .result) (layEnd e v (a .i) (a .j) ps) (layStart s e v (a .i) (a .j) ps)
+    (c .before .before .lay-end2 .ensures)
+    (sym (start-same s e v (a .i) (a .j) ps (cc) (cc)))
+
+lay-end-requires-3 : tie.Need-lay-end-requires-3
+lay-end-requires-3 c κs = (omega arith, (omega arith, (omega arith, c .before .before .before .before .before .before .before .before .before .before .pre .1 .1 .1 .0)))
+
+same-length-3 : tie.Need-same-length-3
+same-length-3 c = search needs
+
+returns-3 : tie.Need-returns-3
+returns-3 c =
+    let a = c .before .before .before .before .before .before .before .before .before .before .before .before .before .args in
+    let ps = points (a .n) (a .col .now) in
+    let s = a .l .«offset_start» .0 in
+    let e = a .l .«offset_end» .0 in
+    let v = a .l .speed .0 in
+    leaves-at (c .before .before .lay-end3 .last .0) (c .before .before .lay-end3 .result) (layEnd e v (a .i) (a .j) ps) (layStart s e v (a .i) (a .j) ps)
+    (c .before .before .lay-end3 .ensures)
+    (sym (start-kept s e v (a .i) (a .j) ps (cc)))
+
+pub lay-start-spec : {M : Type 1} → statement M
+lay-start-spec =
+    tie.close
+    (tie.spec
+    offset-at-requires
+    sub-speed-at
+    speed-at-requires
+    min-speed-requires
+    insert-point-requires
+    add-lay-end
+    add-lay-end-2
+    add-lay-end-3
+    lay-end-requires
+    same-length
+    returns
+    lay-end-requires-2
+    same-length-2
+    returns-2
+    lay-end-requires-3
+    same-length-3
+    returns-3)
