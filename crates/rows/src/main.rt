@@ -1,4 +1,5 @@
 // Document 01's rows, run through the code and printed as it answers them.
+use column::Two;
 use libc::STDOUT_FILENO;
 use lookup::calc_idx::calc_idx;
 use lookup::lin_search_hint::Dir;
@@ -8,7 +9,6 @@ use si::Velocity;
 use speed::insert_speed::insert_speed;
 use speed::speed_limit::SpeedLimit;
 use speed::speed_point::offset_at;
-ghost use Prim.Native.Nat.{_<_};
 
 fn say(text: &[u8]) {
     io::write_all(STDOUT_FILENO, text);
@@ -27,19 +27,21 @@ fn number(x: f64) {
     }
 }
 
+fn point(p: Two) {
+    say(b" (");
+    number(p.0);
+    say(b",");
+    number(p.1);
+    say(b")");
+}
+
 // The first n points of a column.
 fn points(col: &[f64], n: usize) {
     let mut i = 0;
     while i < n {
-        let p = column::floats::two_at(col, i);
-        say(b" (");
-        number(p.0);
-        say(b",");
-        number(p.1);
-        say(b")");
+        point(column::floats::two_at(col, i));
         i += 1;
     }
-    say(b"\n");
 }
 
 // Lays a limit on the n points of a column that has room, and zeros past them.
@@ -73,6 +75,7 @@ fn s_row(name: &[u8], col: &mut [f64], n: usize, from: f64, to: f64, at: f64) ->
         },
     );
     points(col, m);
+    say(b"\n");
     m
 }
 

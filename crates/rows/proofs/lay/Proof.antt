@@ -1,57 +1,61 @@
+-- `lay`: zeros past the points, and then the limit.
+use mathlib.Core.Path.{_≡_, sym, ap, _∙_}
+use mathlib.Core.Bool.{true}
+use Prim.Native.Nat.{_*_, _≤_}
+use native.Mathlib.Omega.{arith}
+use lib.ListN.{length}
+use lib.Ieee as Ieee
+use lib.Ieee.{Float}
+use Rattle.speed.specs.Points.{Point, offsetAt}
+use Rattle.speed.specs.Column.{points}
+use Rattle.speed.proofs.Held.{next-zeroed}
+use mathlib.Core.List.{List}
 use borrow.Author.Needs.{needs}
 use Rattle.rows.proofs.lay.Statement.{statement}
 use Rattle.rows.proofs.lay.Tie as tie
-use Rattle.rows.proofs.lay.Reads as reads
-use Rattle.rows.proofs.lay.Lts as lts
-use Rattle.column.proofs.floats.zero_from.Reads as zero-from-reads
-use Rattle.speed.proofs.insert_speed.insert_speed.Reads as insert-speed-reads
-use Rattle.speed.proofs.speed_point.offset_at.Reads as offset-at-reads
 
--- src/main.rt:48:9
 returns : tie.Need-returns
 returns c = search needs
 
--- src/main.rt:51:9
 returns-2 : tie.Need-returns-2
 returns-2 c = search needs
 
--- src/main.rt:53:8
 sub-if3 : tie.Need-sub-if3
 sub-if3 c = search needs
 
--- src/main.rt:54:9
 returns-3 : tie.Need-returns-3
 returns-3 c = search needs
 
--- src/main.rt:56:8
 offset-at-requires : tie.Need-offset-at-requires
 offset-at-requires c κs = search needs
 
--- src/main.rt:57:46
 mul-zero-from : tie.Need-mul-zero-from
 mul-zero-from c = search needs
 
--- src/main.rt:57:9
 zero-from-requires : tie.Need-zero-from-requires
 zero-from-requires c κs = search needs
 
--- src/main.rt:58:9
 insert-speed-requires : tie.Need-insert-speed-requires
-insert-speed-requires c κs = ?
+insert-speed-requires c κs =
+    let n = c .before .before .before .before .before .before .before .before .before .before .before .before .before .before .args .n in
+    let l = c .before .before .before .before .before .before .before .before .before .before .before .before .before .before .args .col .now in
+    let d = c .before .before .before .zero-from .last .0 in
+    let s = c .before .before .before .before .before .before .before .before .before .before .before .before .before .before .args .l .«offset_start» .0 in
+    let room : 2 * n ≤ length l = omega arith in
+    let next = next-zeroed l d n room (c .before .before .before .zero-from .ensures) in
+    let first : Ieee.le (offsetAt (points n d) 0) s ≡ true =
+    ap (λ (ps : List Point). Ieee.le (offsetAt ps 0) s) (next .0) ∙ ap (λ (y : Float). Ieee.le y s) (sym (c .before .before .before .before .before .before .before .before .offset-at .ensures)) ∙ c .before .before .before .before .before .if4 .taken in
+    (omega arith, (omega (arith, c .before .before .before .zero-from .kept .0), (next .1, first)))
 
--- src/main.rt:58:9
 same-length : tie.Need-same-length
 same-length c = search needs
 
--- src/main.rt:58:9
 returns-4 : tie.Need-returns-4
 returns-4 c = search needs
 
--- src/main.rt:46:1
 same-length-2 : tie.Need-same-length-2
 same-length-2 c = search needs
 
--- src/main.rt:46:1
 returns-5 : tie.Need-returns-5
 returns-5 c = search needs
 
