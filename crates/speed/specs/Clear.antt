@@ -19,6 +19,7 @@ moveTo X [] = []
 moveTo X (p ∷ ps) = point X (p .speed) ∷ ps
 
 -- "If a speed point is at X, as the Rust": the first at X stays. "If none is, the last point before X is kept": the index of that point.
+-- Where every point lies after X, which no path has, the first stays.
 unfoldable pub clearFrom : List Point → Float → ℕ
 unfolding firstFrom
 clearFrom ps X = cond (isAt X (drop (firstFrom X ps) ps)) (firstFrom X ps) (firstFrom X ps - 1)

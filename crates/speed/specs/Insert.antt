@@ -66,6 +66,7 @@ layEnd e v i j ps = cond (ends e v j ps) (merge v (suc j - i) i (insertAt (suc j
 abbrev pub starts : Float → Float → ℕ → List Point → Bool
 starts s v i ps = Ieee.lt s (offsetAt ps i) && Ieee.ne (speedAt ps (i - 1)) (minSpeed (speedAt ps (i - 1)) v)
 
+-- "There a limit strictly inside one stretch isn't released at e": point j is then the one that goes in here, and the limit no longer changes its speed.
 unfoldable pub layStart : Float → Float → Float → ℕ → ℕ → List Point → List Point
 unfolding layEnd
 layStart s e v i j ps =

@@ -10,7 +10,7 @@ use Rattle.speed.specs.Points.{Point}
 abbrev pub passed : Float → Point → Float → Float
 passed x p u = cond (Ieee.le (p .offset) x) (p .speed) u
 
--- the speed of the last point at or before x, and u where there is none
+-- the speed of the last point at or before x, and u where there is none; from the first offset on u does not matter
 abbrev pub posted : Float → List Point → Float → Float
 posted x [] u = u
 posted x (p ∷ ps) u = posted x ps (passed x p u)

@@ -1,0 +1,10 @@
+-- The laws of the crate `speed_laws`.
+pub mod Changes
+pub mod Front
+pub mod Merge
+pub mod Lay
+pub mod Append
+pub mod Post
+pub mod Insert
+pub mod Kept
+pub mod Clear

@@ -1,0 +1,2 @@
+-- The definitions of the crate `speed_laws`: the words of its laws.
+pub mod Words
