@@ -1,0 +1,5 @@
+-- Laws of the definitions.
+pub mod Loops
+pub mod Conditions
+pub mod Formed
+pub mod Judging

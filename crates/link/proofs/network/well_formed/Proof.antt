@@ -1,0 +1,157 @@
+-- `well_formed`: question by question, with what is left to ask after each yes.
+use Prim.Native.Nat.{ℕ}
+use native.Mathlib.Omega.{arith}
+use mathlib.Core.Path.{_≡_, refl, sym, ap, _∙_}
+use mathlib.Core.Bool.{Bool}
+use borrow.Author.Tests.{eq-eqb, ne-eqb}
+use borrow.Author.Needs.{needs}
+use lib.ListN.{getD}
+use lib.Ieee as Ieee
+use lib.Ieee.{Float}
+use Rattle.ieee.specs.Number.{+0}
+use Rattle.ieee.proofs.Same.{zero-literal}
+use Rattle.link.specs.declared.network.LinkNumbers.{LinkNumbers}
+use Rattle.link.specs.Table.{LinkTable, tableOf}
+use Rattle.link.specs.Questions.{wellFormed}
+use Rattle.link.proofs.Judging.{said-no, said-yes, fromSets, fromPowers, fromHeadings, fromElevs, fromAbove, fromFinite, fromPools, all-asked}
+use Rattle.link.proofs.network.well_formed.Statement.{statement}
+use Rattle.link.proofs.network.well_formed.Tie as tie
+
+-- ---- what is left to ask
+
+abbrev table : tie.Start → LinkTable
+table s = tableOf (s .args .links .now) (s .args .lengths .now) (s .args .sets .now) (s .args .elevs .now) (s .args .headings .now) (s .args .limits .now) (s .args .codes .now) (s .args .values .now) (s .args .powers .now) (s .args .districts .now)
+
+-- the link is well formed if `rest` says so
+abbrev Left : tie.After-link-numbers → (LinkTable → ℕ → LinkNumbers → Bool) → Type 0
+Left c rest =
+    let s = c .before .before .before .before .before .before .before .before .before .before .before in
+    wellFormed (table s) (s .args .n) ≡ rest (table s) (s .args .n) (c .link-numbers .result)
+
+-- the length as the table has it
+abbrev Long : tie.After-link-numbers → Float → Type 0
+Long c x =
+    let s = c .before .before .before .before .before .before .before .before .before .before .before in
+    x ≡ getD (s .args .lengths .now) (s .args .n) +0
+
+after-place : (c : tie.Else1) (x : Float) → Long (c .before .before) x → Left (c .before .before) (fromPools x)
+after-place c x long =
+    let s = c .before .before .before .before .before .before .before .before .before .before .before .before .before in
+    let l = c .before .before .link-numbers in
+    all-asked x (table s) (s .args .n) (l .result) (l .ensures) long ∙ rw (eq-eqb (l .result .«idx_curr») (s .args .n) (c .if1 .left))
+
+after-pools : (c : tie.Else2) (x : Float) → Long (c .before .before .before .before) x → Left (c .before .before .before .before) (fromFinite x)
+after-pools c x long = after-place (c .before .before) x long ∙ rw (said-yes (c .before .in-pools .ensures) (c .if2 .left))
+
+after-finite : (c : tie.Else3) → Left (c .before .before .before .before .before .before .before) (fromAbove (c .before .before .get .result))
+after-finite c = after-pools (c .before .before .before) (c .before .before .get .result) (c .before .before .get .ensures) ∙ rw (said-yes (c .before .is-finite .ensures) (c .if3 .left))
+
+after-above : (c : tie.Else4) → Left (c .before .before .before .before .before .before .before .before) (fromElevs (c .before .before .before .get .result))
+after-above c = after-finite (c .before) ∙ rw (said-yes (ap (λ (z : Float). Ieee.lt z (c .before .before .before .get .result)) zero-literal) (c .if4 .left))
+
+after-elevs : (c : tie.Else5) → Left (c .before .before .before .before .before .before .before .before .before .before .before .before) (fromHeadings (c .before .before .before .before .before .before .before .get .result))
+after-elevs c = after-above (c .before .before .before .before) ∙ rw (said-yes (c .before .samples-formed .ensures) (c .if5 .left))
+
+after-headings : (c : tie.Else6) → Left (c .before .before .before .before .before .before .before .before .before .before .before .before .before .before .before .before) (fromPowers (c .before .before .before .before .before .before .before .before .before .before .before .get .result))
+after-headings c = after-elevs (c .before .before .before .before) ∙ rw (said-yes (c .before .samples-formed2 .ensures) (c .if6 .left))
+
+after-powers : (c : tie.Else7) → Left (c .before .before .before .before .before .before .before .before .before .before .before .before .before .before .before .before .before .before .before .before) (fromSets (c .before .before .before .before .before .before .before .before .before .before .before .before .before .before .before .get .result))
+after-powers c = after-headings (c .before .before .before .before) ∙ rw (said-yes (c .before .limits-formed .ensures) (c .if7 .left))
+
+-- ---- the answers
+
+link-numbers-requires : tie.Need-link-numbers-requires
+link-numbers-requires c κs = search needs
+
+returns : tie.Need-returns
+returns c =
+    let s = c .before .before .before .before .before .before .before .before .before .before .before .before .before in
+    let l = c .before .before .link-numbers in
+    sym (all-asked _ (table s) (s .args .n) (l .result) (l .ensures) refl ∙ rw (ne-eqb (l .result .«idx_curr») (s .args .n) (c .if1 .taken)))
+
+in-pools-requires : tie.Need-in-pools-requires
+in-pools-requires c κs = search needs
+
+returns-2 : tie.Need-returns-2
+returns-2 c = sym (after-place (c .before .before) _ refl ∙ rw (said-no (c .before .in-pools .ensures) (c .if2 .taken)))
+
+get-requires : tie.Need-get-requires
+get-requires c κs = search needs
+
+is-finite-requires : tie.Need-is-finite-requires
+is-finite-requires c κs = search needs
+
+returns-3 : tie.Need-returns-3
+returns-3 c = sym (after-pools (c .before .before .before) (c .before .before .get .result) (c .before .before .get .ensures) ∙ rw (said-no (c .before .is-finite .ensures) (c .if3 .taken)))
+
+returns-4 : tie.Need-returns-4
+returns-4 c = sym (after-finite (c .before) ∙ rw (said-no (ap (λ (z : Float). Ieee.lt z (c .before .before .before .get .result)) zero-literal) (c .if4 .taken)))
+
+cast-samples-formed : tie.Need-cast-samples-formed
+cast-samples-formed c = omega (arith, c .struct-known2 .given)
+
+cast-samples-formed-2 : tie.Need-cast-samples-formed-2
+cast-samples-formed-2 c = omega (arith, c .struct-known3 .given)
+
+samples-formed-requires : tie.Need-samples-formed-requires
+samples-formed-requires c κs = omega (arith, c .struct-known3 .given)
+
+returns-5 : tie.Need-returns-5
+returns-5 c = sym (after-above (c .before .before .before .before) ∙ rw (said-no (c .before .samples-formed .ensures) (c .if5 .taken)))
+
+cast-samples-formed-3 : tie.Need-cast-samples-formed-3
+cast-samples-formed-3 c = omega (arith, c .struct-known4 .given)
+
+cast-samples-formed-4 : tie.Need-cast-samples-formed-4
+cast-samples-formed-4 c = omega (arith, c .struct-known5 .given)
+
+samples-formed-requires-2 : tie.Need-samples-formed-requires-2
+samples-formed-requires-2 c κs = omega (arith, c .struct-known5 .given)
+
+returns-6 : tie.Need-returns-6
+returns-6 c = sym (after-elevs (c .before .before .before .before) ∙ rw (said-no (c .before .samples-formed2 .ensures) (c .if6 .taken)))
+
+cast-limits-formed : tie.Need-cast-limits-formed
+cast-limits-formed c = omega (arith, c .struct-known6 .given)
+
+cast-limits-formed-2 : tie.Need-cast-limits-formed-2
+cast-limits-formed-2 c = omega (arith, c .struct-known7 .given)
+
+limits-formed-requires : tie.Need-limits-formed-requires
+limits-formed-requires c κs = omega (arith, c .struct-known7 .given)
+
+returns-7 : tie.Need-returns-7
+returns-7 c = sym (after-headings (c .before .before .before .before) ∙ rw (said-no (c .before .limits-formed .ensures) (c .if7 .taken)))
+
+sets-formed-requires : tie.Need-sets-formed-requires
+sets-formed-requires c κs = omega (arith, c .before .before .before .before .before .before .before .before .before .before .before .before .before .before .before .before .before .before .before .before .before .before .before .before .before .before .before .before .before .before .before .fits .n)
+
+returns-8 : tie.Need-returns-8
+returns-8 c = c .sets-formed .ensures ∙ sym (after-powers (c .before))
+
+pub well-formed-spec : {M : Type 1} → statement M
+well-formed-spec =
+    tie.close
+    (tie.spec
+    link-numbers-requires
+    returns
+    in-pools-requires
+    returns-2
+    get-requires
+    is-finite-requires
+    returns-3
+    returns-4
+    cast-samples-formed
+    cast-samples-formed-2
+    samples-formed-requires
+    returns-5
+    cast-samples-formed-3
+    cast-samples-formed-4
+    samples-formed-requires-2
+    returns-6
+    cast-limits-formed
+    cast-limits-formed-2
+    limits-formed-requires
+    returns-7
+    sets-formed-requires
+    returns-8)

@@ -1,0 +1,65 @@
+-- Conditions of a speed set: document 01, speed_param.rs and train_params.rs. Definitions only.
+use Prim.Native.Nat.{ℕ}
+use mathlib.Core.Bool.{Bool, true, false, _&&_, cond}
+use mathlib.Core.List.{List}
+use lib.Dec.{eqb, ltb, leb}
+use lib.Ieee as Ieee
+use lib.Ieee.{Float}
+use lib.Ieee.Scale.{finite}
+use Rattle.link.specs.declared.train_params.TrainParams.{TrainParams}
+use Rattle.link.specs.declared.speed_param.SpeedParam.the-variants.{MassTotal, MassPerBrake, AxleCount}
+use Rattle.link.specs.declared.speed_param.ParamFound.{ParamFound}
+use Rattle.link.specs.declared.speed_param.ParamFound.the-variants.{Known, Unknown}
+use Rattle.link.specs.Lists.{every}
+use Rattle.link.specs.Train.{towedMass, massPerBrake, axles}
+
+-- a condition as the table has it: two codes and a value
+pub record Condition : Type 0 where
+  pub kind : ℕ
+  pub comparison : ℕ
+  pub value : Float
+
+-- "A condition carries its limit value with its kind: total mass, mass per brake, or axles." The kinds' codes are the Rust's: 3, 4, 5.
+unfoldable pub paramOf : ℕ → Float → ParamFound
+paramOf kind v =
+    cond (eqb kind 3) (Known (MassTotal v)) (cond (eqb kind 4) (Known (MassPerBrake v)) (cond (eqb kind 5) (Known (AxleCount v)) Unknown))
+
+-- "Comparison codes 1 to 5: =, >, <, ≥, ≤": which of the five a code asks for
+unfoldable pub byCode : ℕ → Bool → Bool → Bool → Bool → Bool → Bool
+byCode code equal above below notBelow notAbove =
+    cond (eqb code 1) equal (cond (eqb code 2) above (cond (eqb code 3) below (cond (eqb code 4) notBelow (cond (eqb code 5) notAbove false))))
+
+-- "train's figure on the left"
+abbrev pub comparesFloat : ℕ → Float → Float → Bool
+comparesFloat code figure limit = byCode code (Ieee.eq figure limit) (Ieee.lt limit figure) (Ieee.lt figure limit) (Ieee.le limit figure) (Ieee.le figure limit)
+
+abbrev pub comparesCount : ℕ → ℕ → ℕ → Bool
+comparesCount code figure limit = byCode code (eqb figure limit) (ltb limit figure) (ltb figure limit) (leb limit figure) (leb figure limit)
+
+-- "For axles the value becomes a u32 as Rust's `as` does": toward zero, to the nearest end of the range, a NaN to 0
+unfoldable pub axleLimit : Float → ℕ
+axleLimit v = Ieee.toUnsigned 32 v
+
+unfoldable pub paramHolds : TrainParams → ℕ → ParamFound → Bool
+unfolding byCode axleLimit
+paramHolds train code Unknown = false
+paramHolds train code (Known (MassTotal v)) = comparesFloat code (towedMass train) v
+paramHolds train code (Known (MassPerBrake v)) = comparesFloat code (massPerBrake train) v
+paramHolds train code (Known (AxleCount v)) = comparesCount code (axles train) (axleLimit v)
+
+unfoldable pub holds : TrainParams → Condition → Bool
+unfolding paramHolds paramOf
+holds train c = paramHolds train (c .comparison) (paramOf (c .kind) (c .value))
+
+-- "A set applies if its first condition holds and the rest of the list applies; an empty list applies."
+abbrev pub applies : TrainParams → List Condition → Bool
+applies train cs = every (holds train) cs
+
+abbrev pub isKnown : ParamFound → Bool
+isKnown Unknown = false
+isKnown (Known p) = true
+
+-- question 6 of a condition: its codes are known, and its value is finite
+unfoldable pub conditionFormed : Condition → Bool
+unfolding paramOf
+conditionFormed c = isKnown (paramOf (c .kind) (c .value)) && (leb 1 (c .comparison) && (leb (c .comparison) 5 && finite (c .value)))

@@ -1,0 +1,70 @@
+// Limits of speed and of power: a start, an end and a value, three entries to a limit.
+use si::Length;
+use si::Power;
+use si::Velocity;
+use speed::speed_limit::SpeedLimit;
+ghost use mathlib.Core.Path.{_≡_};
+ghost use Prim.Native.Nat.{_+_, _<_, _^_};
+ghost use Rattle.link.specs.Lists.{every, upFrom};
+ghost use Rattle.link.specs.Table.{limitAt, limitOf, powerAt, powerOf};
+ghost use Rattle.link.specs.Questions.{limitFormed};
+
+pub struct CatPowerLimit {
+    pub offset_start: Length,
+    pub offset_end: Length,
+    pub power_limit: Power,
+    pub district_id: u32,
+}
+
+// Limit i of the pool of speed limits.
+pub fn speed_limit_at(limits: &[f64], i: usize) -> SpeedLimit
+    ensures { λ r. ⌜ limitOf r ≡ limitAt (now (limits .entry)) i ⌝ }
+{
+    let t = column::floats::three_at(limits, i);
+    SpeedLimit {
+        offset_start: Length(t.0),
+        offset_end: Length(t.1),
+        speed: Velocity(t.2),
+    }
+}
+
+// Limit i of the pool of power limits.
+pub fn power_limit_at(powers: &[f64], districts: &[u32], i: usize) -> CatPowerLimit
+    ensures { λ r. ⌜ powerOf r ≡ powerAt (now (powers .entry)) (now (districts .entry)) i ⌝ }
+{
+    let t = column::floats::three_at(powers, i);
+    CatPowerLimit {
+        offset_start: Length(t.0),
+        offset_end: Length(t.1),
+        power_limit: Power(t.2),
+        district_id: column::words::get(districts, i),
+    }
+}
+
+// Question 6 of a limit: every number finite, 0 <= start <= end.
+fn limit_formed(limits: &[f64], i: usize) -> bool
+    ensures { λ r. ⌜ r ≡ limitFormed (limitAt (now (limits .entry)) i) ⌝ }
+{
+    let t = column::floats::three_at(limits, i);
+    let finite = ieee::is_finite(t.0) & (ieee::is_finite(t.1) & ieee::is_finite(t.2));
+    if finite {
+        return (0.0 <= t.0) & (t.0 <= t.1);
+    }
+    false
+}
+
+// Question 6 of `count` limits from `first` on, of speed or of power.
+pub fn limits_formed(limits: &[f64], first: usize, count: usize) -> bool
+    requires { ⌜ first + count < 2 ^ 40 ⌝ }
+    ensures { λ r. ⌜ r ≡ every limitFormed (upFrom (limitAt (now (limits .entry))) first count) ⌝ }
+{
+    let end = first + count;
+    let mut i = first;
+    while i < end {
+        if !limit_formed(limits, i) {
+            return false;
+        }
+        i += 1;
+    }
+    true
+}
