@@ -3,7 +3,7 @@ use Prim.Native.Nat.{ℕ, suc, _+_, _-_, _*_, _≤_, _<_}
 use native.Mathlib.Omega.{arith}
 use native.Mathlib.Nat.{add-zero}
 use mathlib.Core.Path.{_≡_, refl, sym, ap, ap₂, _∙_}
-use mathlib.Core.Bool.{Bool, true, false, _&&_}
+use mathlib.Core.Bool.{Bool, _&&_, and-true}
 use mathlib.Core.List.{List, [], _∷_}
 use lib.ListN.{length, take, drop, getD, drop-of-length-le}
 use lib.Seq.{take-all, drop-cons, getD-drop}
@@ -37,10 +37,6 @@ offset-entry n c i h k =
     ∙ sym (ap standsAt (record-at triple triple-lawful n c i noCoeff h) ∙ getD-drop (3 * i) c 0 +0 ∙ ap (λ (j : ℕ). getD c j +0) (add-zero (3 * i)))
 
 -- ---- question 1
-and-true : (a : Bool) → (a && true) ≡ a
-and-true true = refl
-and-true false = refl
-
 -- one record or more
 finite-some : (closes : Bool) (n : ℕ) (c : List Float) → 0 < n → coeffsFinite closes n c ≡ (allFinite (take (3 * (n - 1)) c) && closingFinite closes (take 3 (drop (3 * (n - 1)) c)))
 unfolding coeffsFinite

@@ -1,0 +1,115 @@
+-- Question 2 of a path that is read out of its columns, clause by clause.
+use Prim.Native.Nat.{ℕ, _*_, _/_, _≤_, _<_}
+use native.Mathlib.Omega.{arith}
+use mathlib.Core.Path.{_≡_, refl}
+use mathlib.Core.Bool.{Bool, true, false, not, _&&_, _||_, false≢true}
+use borrow.Author.Tests.{leb-true}
+use Rattle.speed.specs.Column.{points}
+use Rattle.lookup.specs.Coeff.{coeffs}
+use Rattle.path.specs.declared.path_tpc.PathTpc.{PathTpc}
+use Rattle.path.specs.declared.link_point.LinkPoint.{LinkPoint}
+use Rattle.path.specs.Records.{Columns, withinAll, linkPoints, pointAt, noLinkPoint, offsetOf, pathOf}
+use Rattle.path.specs.Sound.{oneOfEach, withinBounds, addUp, totals, closes, endCountsZero, offsetsRise, numbersReal, linksSound, sortedFrom, countOf, firstAtOffset, countsAddUp, closedAtInfinity, soundPath, sound}
+use Rattle.path.proofs.LinkPoints.{link-at}
+use Rattle.path.proofs.ReadBack.{counted, Within}
+
+and-both : (a b : Bool) → (a && b) ≡ true → (a ≡ true) × (b ≡ true)
+and-both true b e = (refl, e)
+and-both false b e = absurd (false≢true e)
+
+within-all : (n bound a b : ℕ) → withinAll n bound a b ≡ true → (n ≤ bound) × (n ≤ a) × (n ≤ b)
+within-all n bound a b e =
+    let t = and-both _ _ e in
+    let u = and-both _ _ (t .1) in
+    (leb-true n bound (t .0), leb-true n a (u .0), leb-true n b (u .1))
+
+twice : (n k : ℕ) → n ≤ k / 2 → 2 * n ≤ k
+twice n k h = omega arith
+
+thrice : (n k : ℕ) → n ≤ k / 3 → 3 * n ≤ k
+thrice n k h = omega arith
+
+fourfold : (n k : ℕ) → n ≤ k / 4 → 4 * n ≤ k
+fourfold n k h = omega arith
+
+module _ (p : PathTpc) (c : Columns) where
+  -- ---- the answer, question by question
+  pub sound-none : oneOfEach p ≡ false → sound p c ≡ false
+  unfolding sound
+  sound-none e = rw e
+
+  module _ (one : oneOfEach p ≡ true) where
+    pub sound-past : withinBounds p c ≡ false → sound p c ≡ false
+    unfolding sound
+    sound-past e = rw (one, e)
+
+    pub sound-more : withinBounds p c ≡ true → sound p c ≡ soundPath (pathOf p c)
+    unfolding sound
+    sound-more e = rw (one, e)
+
+  -- ---- what the counts are once they are judged
+  pub some-link : oneOfEach p ≡ true → 0 < p .«link_count»
+  unfolding oneOfEach
+  some-link e = leb-true 1 (p .«link_count») (and-both _ _ e .0)
+
+  module _ (e : withinBounds p c ≡ true) where
+    -- the counts lie within their bounds
+    pub bounds : (p .«link_count» ≤ 1025) × (p .«grade_count» ≤ 16384) × (p .«curve_count» ≤ 16384) × (p .«speed_count» ≤ 4096) × (p .«power_count» ≤ 1024)
+    unfolding withinBounds
+    bounds =
+        let l = and-both _ _ e in
+        let g = and-both _ _ (l .1) in
+        let k = and-both _ _ (g .1) in
+        let s = and-both _ _ (k .1) in
+        (within-all _ _ _ _ (l .0) .0, within-all _ _ _ _ (g .0) .0, within-all _ _ _ _ (k .0) .0, within-all _ _ _ _ (s .0) .0, within-all _ _ _ _ (s .1) .0)
+
+    -- and within the columns
+    pub room : Within p c
+    unfolding withinBounds
+    room =
+        let l = and-both _ _ e in
+        let g = and-both _ _ (l .1) in
+        let k = and-both _ _ (g .1) in
+        let s = and-both _ _ (k .1) in
+        let links = within-all _ _ _ _ (l .0) in
+        let powers = within-all _ _ _ _ (s .1) in
+        record {
+          offsets = links .1;
+          numbers = fourfold _ _ (links .2);
+          grades = thrice _ _ (within-all _ _ _ _ (g .0) .1);
+          curves = thrice _ _ (within-all _ _ _ _ (k .0) .1);
+          speeds = twice _ _ (within-all _ _ _ _ (s .0) .1);
+          powers = thrice _ _ (powers .1);
+          districts = powers .2;
+        }
+
+  -- ---- the other clauses
+  pub clauses :
+      0 < p .«link_count»
+      → soundPath (pathOf p c) ≡ addUp p (totals (linkPoints (p .«link_count») (c .offsets) (c .numbers)))
+      && ((not (p .«is_finished») || (closes (coeffs (p .«grade_count») (c .grades)) && closes (coeffs (p .«curve_count») (c .curves))))
+      && (linksSound (linkPoints (p .«link_count») (c .offsets) (c .numbers))
+      && (sortedFrom (offsetOf (pointAt (c .offsets) (c .numbers) 0)) (points (p .«speed_count») (c .speeds))
+      && (firstAtOffset (countOf false) 0 (linkPoints (p .«link_count») (c .offsets) (c .numbers)) (coeffs (p .«grade_count») (c .grades))
+      && firstAtOffset (countOf true) 0 (linkPoints (p .«link_count») (c .offsets) (c .numbers)) (coeffs (p .«curve_count») (c .curves))))))
+  unfolding soundPath pathOf countsAddUp closedAtInfinity
+  clauses h = cc (counted p c, link-at (p .«link_count») (c .offsets) (c .numbers) 0 noLinkPoint h)
+
+  -- the answers of the clauses, joined as the code joins them
+  pub joined :
+      {q first : LinkPoint} {sums g k ended rise real sorted slopes bends : Bool}
+      → 0 < p .«link_count»
+      → q ≡ totals (linkPoints (p .«link_count») (c .offsets) (c .numbers))
+      → first ≡ pointAt (c .offsets) (c .numbers) 0
+      → g ≡ closes (coeffs (p .«grade_count») (c .grades))
+      → k ≡ closes (coeffs (p .«curve_count») (c .curves))
+      → ended ≡ endCountsZero (linkPoints (p .«link_count») (c .offsets) (c .numbers))
+      → rise ≡ offsetsRise (linkPoints (p .«link_count») (c .offsets) (c .numbers))
+      → real ≡ numbersReal (linkPoints (p .«link_count») (c .offsets) (c .numbers))
+      → sorted ≡ sortedFrom (offsetOf first) (points (p .«speed_count») (c .speeds))
+      → slopes ≡ firstAtOffset (countOf false) 0 (linkPoints (p .«link_count») (c .offsets) (c .numbers)) (coeffs (p .«grade_count») (c .grades))
+      → bends ≡ firstAtOffset (countOf true) 0 (linkPoints (p .«link_count») (c .offsets) (c .numbers)) (coeffs (p .«curve_count») (c .curves))
+      → sums ≡ addUp p q
+      → (sums && ((not (p .«is_finished») || (g && k)) && ((ended && (rise && real)) && (sorted && (slopes && bends))))) ≡ soundPath (pathOf p c)
+  unfolding linksSound
+  joined h e₁ e₂ e₃ e₄ e₅ e₆ e₇ e₈ e₉ e₁₀ e₁₁ = cc (clauses h, e₁, e₂, e₃, e₄, e₅, e₆, e₇, e₈, e₉, e₁₀, e₁₁)

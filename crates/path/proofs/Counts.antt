@@ -1,0 +1,96 @@
+-- Counts of link points, one point more at a time, and the offsets of the records that they count.
+use Prim.Native.Nat.{ℕ, zero, suc, _+_, _*_, _≤_, _<_, _^_}
+use native.Mathlib.Omega.{arith}
+use mathlib.Core.Path.{_≡_, ap}
+use mathlib.Core.Bool.{Bool, true, false}
+use mathlib.Core.List.{List}
+use lib.ListN.{getD, List·getD-eq-default}
+use lib.Ieee.{Float}
+use mir.Syntax.{w32, w64}
+use mir.Val.{Fits}
+use Rattle.ieee.specs.Number.{+0}
+use Rattle.column.specs.Records.{recordAt, three}
+use Rattle.column.proofs.Entry.{four-entries}
+use Rattle.column.proofs.Bridge.{length-records, record-at}
+use Rattle.lookup.specs.declared.path_res_coeff.PathResCoeff.{PathResCoeff}
+use Rattle.lookup.specs.Coeff.{triple, coeffs, noCoeff, standsAt, offsetAt}
+use Rattle.lookup.proofs.Coeffs.{triple-lawful}
+use Rattle.path.specs.declared.link_point.LinkPoint.{LinkPoint}
+use Rattle.path.specs.Records.{offsetOf, gradeCount, curveCount, powerCount, pointAt, linkPoints}
+use Rattle.path.specs.Sound.{total, totals, standsThere, countOf, firstAtOffset}
+use Rattle.path.proofs.LinkPoints.{linksFrom, links-all, links-next, links-more, links-none}
+
+-- ---- the offset of record i of m
+module _ (m : ℕ) (c : List Float) (i : ℕ) where
+  pub offset-of : i < m → offsetAt (coeffs m c) i ≡ recordAt three c i .0
+  unfolding recordAt
+  offset-of h = ap standsAt (record-at triple triple-lawful m c i noCoeff h)
+
+  -- past the end
+  pub offset-past : m ≤ i → offsetAt (coeffs m c) i ≡ +0
+  offset-past h = ap standsAt (List·getD-eq-default (coeffs m c) noCoeff (omega (arith, length-records triple triple-lawful m c)))
+
+module _ (os : List Float) (ns : List ℕ) where
+  -- ---- each count is an entry of a column of u32
+  module _ (known : (k : ℕ) → Fits w32 (getD ns k 0)) (i : ℕ) where
+    pub counts-small : (gradeCount (pointAt os ns i) < 2 ^ 32) × (curveCount (pointAt os ns i) < 2 ^ 32) × (powerCount (pointAt os ns i) < 2 ^ 32)
+    counts-small = rw (four-entries ns i) (known (4 * i) .fits, known (4 * i + 1) .fits, known (4 * i + 2) .fits)
+
+    pub count-of-small : (curves : Bool) → countOf curves (pointAt os ns i) < 2 ^ 32
+    count-of-small true = counts-small .1
+    count-of-small false = counts-small .0
+
+-- ---- the sum of a count
+module _ (count : LinkPoint → ℕ) (os : List Float) (ns : List ℕ) (n : ℕ) where
+  -- s is the sum before point i
+  abbrev pub Counted : ℕ → ℕ → Type 0
+  Counted i s = s + total count (linksFrom os ns n i) ≡ total count (linkPoints n os ns)
+
+  pub counted-none : Counted 0 0
+  counted-none = omega (arith, ap (total count) (links-all os ns n))
+
+  -- one point more
+  pub counted-more : (i s : ℕ) {p : LinkPoint} → i < n → p ≡ pointAt os ns i → Counted i s → Counted (i + 1) (s + count p)
+  unfolding total
+  counted-more i s h e sum = omega (arith, sum, ap (total count) (links-next os ns n i h e))
+
+  -- every point
+  pub counted-all : (i s : ℕ) → n ≤ i → Counted i s → s ≡ total count (linkPoints n os ns)
+  unfolding total
+  counted-all i s h sum = omega (arith, sum, ap (total count) (links-none os ns n i h))
+
+  -- ---- a sum of small counts is small
+  module _ (small : (i : ℕ) → count (pointAt os ns i) < 2 ^ 32) where
+    left-small : (k i : ℕ) → i + k ≡ n → total count (linksFrom os ns n i) ≤ k * 2 ^ 32
+    unfolding total
+    left-small zero i h = omega (arith, ap (total count) (links-none os ns n i (omega arith)))
+    left-small (suc k) i h = omega (arith, ap (total count) (links-more os ns n i (omega arith)), small i, left-small k (i + 1) (omega arith))
+
+    pub total-small : total count (linkPoints n os ns) ≤ n * 2 ^ 32
+    total-small = omega (arith, ap (total count) (links-all os ns n), left-small n 0 (omega arith))
+
+    pub counted-fits : (i s : ℕ) {p : LinkPoint} → n ≤ 1025 → i < n → p ≡ pointAt os ns i → Counted i s → Fits w64 (s + count p)
+    counted-fits i s room h e sum = record { fits = omega (arith, total-small, counted-more i s h e sum) }
+
+-- the sums of a path's link points
+pub sums-small : (os : List Float) (ns : List ℕ) (n : ℕ) {q : LinkPoint} → ((k : ℕ) → Fits w32 (getD ns k 0)) → n ≤ 1025 → q ≡ totals (linkPoints n os ns) → (gradeCount q < 2 ^ 43) × (curveCount q < 2 ^ 43)
+unfolding totals
+sums-small os ns n known room e = (
+  omega (arith, ap gradeCount e, total-small gradeCount os ns n (λ i. counts-small os ns known i .0)),
+  omega (arith, ap curveCount e, total-small curveCount os ns n (λ i. counts-small os ns known i .1)),
+)
+
+-- ---- each point's first record, record `at` for point i, at its offset
+module _ (count : LinkPoint → ℕ) (gs : List PathResCoeff) (os : List Float) (ns : List ℕ) (n i at : ℕ) where
+  module _ {p : LinkPoint} (h : i < n) (e : p ≡ pointAt os ns i) where
+    pub first-pass : standsThere gs at (offsetOf p) ≡ true → firstAtOffset count at (linksFrom os ns n i) gs ≡ firstAtOffset count (at + count p) (linksFrom os ns n (i + 1)) gs
+    unfolding firstAtOffset
+    first-pass t = rw (links-next os ns n i h e, t)
+
+    pub first-fail : standsThere gs at (offsetOf p) ≡ false → firstAtOffset count at (linksFrom os ns n i) gs ≡ false
+    unfolding firstAtOffset
+    first-fail t = rw (links-next os ns n i h e, t)
+
+  pub first-end : n ≤ i → firstAtOffset count at (linksFrom os ns n i) gs ≡ true
+  unfolding firstAtOffset
+  first-end h = rw (links-none os ns n i h)

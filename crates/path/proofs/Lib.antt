@@ -1,0 +1,6 @@
+-- Laws of the definitions.
+pub mod Clauses
+pub mod Counts
+pub mod LinkPoints
+pub mod Ordered
+pub mod ReadBack

@@ -1,0 +1,45 @@
+-- Questions and answers: "The first "no" gives its question's number; the place is, for 4 to 8, the first failing position, else 0. Done is 0,
+-- place 0." Definitions only.
+use Prim.Native.Nat.{ℕ}
+use mathlib.Core.Bool.{Bool, cond}
+use mathlib.Core.List.{List, [], _∷_}
+use lib.Dec.{eqb}
+use Rattle.link.specs.declared.network.Judged.{Judged}
+use Rattle.link.specs.declared.network.Judged.the-variants.{Yes, NoAt}
+use Rattle.path.specs.declared.path_tpc.PathTpc.{PathTpc}
+use Rattle.path.specs.declared.path_tpc.Answer.{Answer}
+use Rattle.path.specs.Records.{Columns, Path, recordOf, columnsOf}
+
+abbrev pub done : Answer
+done = record { number = 0; place = 0 }
+
+abbrev pub isDone : Answer → Bool
+isDone a = eqb (a .number) 0
+
+-- question n, put once
+abbrev pub ask : ℕ → Bool → Answer
+ask n yes? = cond yes? done (record { number = n; place = 0 })
+
+-- question n, put at each position of a list
+abbrev pub askEach : ℕ → Judged → Answer
+askEach n Yes = done
+askEach n (NoAt place) = record { number = n; place = place }
+
+-- the first refusal of a list of answers, and done where there is none
+unfoldable pub inTurn : List Answer → Answer
+inTurn [] = done
+inTurn (a ∷ rest) = cond (isDone a) (inTurn rest) a
+
+-- what a call that may change a path leaves: its answer, the path's record and the columns
+pub record Outcome : Type 0 where
+  pub answer : Answer
+  pub path : PathTpc
+  pub columns : Columns
+
+-- "A refusal hands back every record and column as it came." A call that is done leaves the path `after`.
+unfoldable pub outcome : Answer → PathTpc → Columns → Path → Outcome
+unfolding recordOf columnsOf
+outcome a p c after =
+    cond (isDone a)
+    (record { answer = done; path = recordOf after; columns = columnsOf c after })
+    (record { answer = a; path = p; columns = c })

@@ -1,0 +1,15 @@
+// The path's record: how many records its columns hold, and whether it is finished.
+pub struct PathTpc {
+    pub link_count: usize,
+    pub grade_count: usize,
+    pub curve_count: usize,
+    pub speed_count: usize,
+    pub power_count: usize,
+    pub is_finished: bool,
+}
+
+// Done is 0, place 0; otherwise the number of the question answered with no, and its place.
+pub struct Answer {
+    pub number: u32,
+    pub place: usize,
+}
