@@ -56,6 +56,17 @@ module _ {A : Type 0} (z : A) where
       let e : length l - i ≡ 0 = omega arith in
       zero-is i l ∙ rw (e, take-all i l) (append-nil l)
 
+  replicate-more : (a b m : ℕ) → a + b ≡ m → replicate a z ++ replicate b z ≡ replicate m z
+  replicate-more zero b m h = let e : b ≡ m = omega arith in ap (λ (k : ℕ). replicate k z) e
+  replicate-more (suc a) b m h =
+      let e : m ≡ suc (a + b) = omega arith in
+      ap (λ (l : List A). z ∷ l) (replicate-more a b (a + b) refl) ∙ ap (λ (k : ℕ). replicate k z) (sym e)
+
+  -- all entries zeroed: zeros of any number, and zeros after them
+  pub zeros-filled : (k : ℕ) (l : List A) → k ≤ length l → zeroFrom z 0 l ≡ filled z (length l) (replicate k z)
+  unfolding filled
+  zeros-filled k l h = zero-is 0 l ∙ sym (replicate-more k (length l - length (replicate k z)) (length l - 0) (omega (arith, length-replicate k z)))
+
   -- ---- a stretch
   -- one entry is zeroed, and the rest of the stretch is left to do
   pub range-more : (l : List A) (i to : ℕ) → i < to → i < length l → zeroRange z (i + 1) to (set l i z) ≡ zeroRange z i to l

@@ -8,6 +8,7 @@ use Rattle.link.specs.declared.network.Judged.{Judged}
 use Rattle.link.specs.declared.network.Judged.the-variants.{Yes, NoAt}
 use Rattle.path.specs.declared.path_tpc.PathTpc.{PathTpc}
 use Rattle.path.specs.declared.path_tpc.Answer.{Answer}
+use Rattle.path.specs.declared.path_tpc.PathAnswer.{PathAnswer}
 use Rattle.path.specs.Records.{Columns, Path, recordOf, columnsOf}
 
 abbrev pub done : Answer
@@ -30,16 +31,18 @@ unfoldable pub inTurn : List Answer → Answer
 inTurn [] = done
 inTurn (a ∷ rest) = cond (isDone a) (inTurn rest) a
 
--- what a call that may change a path leaves: its answer, the path's record and the columns
+-- what a call that may change a path leaves: its answer with the path's record, and the columns
 pub record Outcome : Type 0 where
-  pub answer : Answer
-  pub path : PathTpc
+  pub answer : PathAnswer
   pub columns : Columns
+
+abbrev pub left : PathAnswer → Columns → Outcome
+left a c = record { answer = a; columns = c }
 
 -- "A refusal hands back every record and column as it came." A call that is done leaves the path `after`.
 unfoldable pub outcome : Answer → PathTpc → Columns → Path → Outcome
 unfolding recordOf columnsOf
 outcome a p c after =
     cond (isDone a)
-    (record { answer = done; path = recordOf after; columns = columnsOf c after })
-    (record { answer = a; path = p; columns = c })
+    (left (record { answer = done; path = recordOf after }) (columnsOf c after))
+    (left (record { answer = a; path = p }) c)

@@ -13,3 +13,9 @@ pub struct Answer {
     pub number: u32,
     pub place: usize,
 }
+
+// What a call that may change a path answers, and the path's record after it.
+pub struct PathAnswer {
+    pub answer: Answer,
+    pub path: PathTpc,
+}

@@ -25,7 +25,7 @@ fn within(n: usize, bound: usize, a: usize, b: usize) -> bool
 }
 
 // Counts within the columns and their bounds.
-fn within_bounds(
+pub fn within_bounds(
     p: PathTpc,
     offsets: &[f64],
     numbers: &[u32],

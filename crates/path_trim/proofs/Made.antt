@@ -1,0 +1,94 @@
+-- `new`: refused, and done.
+use Prim.Native.Nat.{ℕ, _≤_}
+use native.Mathlib.Omega.{arith}
+use mathlib.Core.Path.{_≡_, sym, ap, _∙_}
+use mathlib.Core.Bool.{Bool, true, false}
+use mathlib.Core.List.{List, [], _∷_}
+use lib.ListN.{length}
+use lib.Ieee.{Float}
+use Rattle.ieee.specs.Number.{+0}
+use Rattle.column.specs.declared.Two.{Two}
+use Rattle.column.specs.Entries.{filled, zeroFrom}
+use Rattle.column.specs.Records.{putRecord, flat, two}
+use Rattle.column.proofs.Filling.{zeros-filled}
+use Rattle.column.proofs.Bridge.{push-filled}
+use Rattle.speed.specs.Points.{point}
+use Rattle.speed.specs.Column.{pair}
+use Rattle.speed.proofs.Held.{pair-lawful}
+use Rattle.link.specs.declared.train_params.TrainParams.{TrainParams}
+use Rattle.link.specs.Train.{topSpeed}
+use Rattle.path.specs.declared.path_tpc.PathTpc.{PathTpc}
+use Rattle.path.specs.declared.path_tpc.PathAnswer.{PathAnswer}
+use Rattle.path.specs.Records.{Columns, columns, columnsOf, recordOf}
+use Rattle.path.specs.Answers.{done, inTurn, outcome, left}
+use Rattle.path.specs.Sound.{trainFinite, withinBounds}
+use Rattle.path.proofs.Clauses.{room}
+use Rattle.path_trim.specs.New.{newPath, start, newAnswer, refusedNew, newOf}
+
+-- one record in a column of zeros
+one-point : (c : List Float) (p : Two) → 2 ≤ length c → putRecord two (zeroFrom +0 0 c) 0 p ≡ filled +0 (length c) (flat pair (point (p .0) (p .1) ∷ []))
+unfolding flat putRecord
+one-point c p h =
+    ap (λ (l : List Float). putRecord two l 0 p) (zeros-filled +0 0 c (omega arith))
+    ∙ push-filled pair pair-lawful +0 (length c) [] (point (p .0) (p .1)) (omega arith)
+
+module _ (train : TrainParams) (c : Columns) where
+  pub refused-1 : trainFinite train ≡ false → newOf train c ≡ left (refusedNew 1) c
+  unfolding newOf newAnswer outcome inTurn
+  refused-1 e = rw e
+
+  module _ (t : trainFinite train ≡ true) where
+    pub refused-9 : withinBounds start c ≡ false → newOf train c ≡ left (refusedNew 9) c
+    unfolding newOf newAnswer outcome inTurn
+    refused-9 e = rw (t, e)
+
+    pub made : withinBounds start c ≡ true → newOf train c ≡ left (record { answer = done; path = start }) (columnsOf c (newPath train))
+    unfolding newOf newAnswer outcome inTurn recordOf newPath
+    made e = rw (t, e)
+
+  -- the columns as the code leaves them
+  pub zeroed :
+      withinBounds start c ≡ true
+      → columns (zeroFrom +0 0 (c .offsets)) (zeroFrom 0 0 (c .numbers)) (zeroFrom +0 0 (c .grades)) (zeroFrom +0 0 (c .curves))
+      (putRecord two (zeroFrom +0 0 (c .speeds)) 0 (record { 0 = +0; 1 = topSpeed train })) (zeroFrom +0 0 (c .powers)) (zeroFrom 0 0 (c .districts))
+      ≡ columnsOf c (newPath train)
+  unfolding columnsOf newPath flat
+  zeroed e =
+      let w = room start c e in
+      cc (
+        zeros-filled +0 1 (c .offsets) (w .offsets),
+        zeros-filled 0 4 (c .numbers) (w .numbers),
+        zeros-filled +0 3 (c .grades) (w .grades),
+        zeros-filled +0 3 (c .curves) (w .curves),
+        one-point (c .speeds) (record { 0 = +0; 1 = topSpeed train }) (w .speeds),
+        zeros-filled +0 0 (c .powers) (w .powers),
+        zeros-filled 0 0 (c .districts) (w .districts),
+      )
+
+  -- ---- as the code has it: t and u are the answers of the two questions
+  module _ {t : Bool} (one : t ≡ trainFinite train) where
+    pub refused-by-1 : {r : PathAnswer} → t ≡ false → r ≡ refusedNew 1 → left r c ≡ newOf train c
+    refused-by-1 h e = ap (λ (a : PathAnswer). left a c) e ∙ sym (refused-1 (sym one ∙ h))
+
+    module _ {u : Bool} {p : PathTpc} (yes : t ≡ true) (record-is : p ≡ start) (nine : u ≡ withinBounds p c) where
+      within-start : {v : Bool} → u ≡ v → withinBounds start c ≡ v
+      within-start e = ap (λ (q : PathTpc). withinBounds q c) (sym record-is) ∙ sym nine ∙ e
+
+      pub refused-by-9 : {r : PathAnswer} → u ≡ false → r ≡ refusedNew 9 → left r c ≡ newOf train c
+      refused-by-9 h e = ap (λ (a : PathAnswer). left a c) e ∙ sym (refused-9 (sym one ∙ yes) (within-start h))
+
+      pub made-by :
+          {os gs ks ss ws ps : List Float} {ns ds : List ℕ}
+          → u ≡ true
+          → os ≡ zeroFrom +0 0 (c .offsets)
+          → ns ≡ zeroFrom 0 0 (c .numbers)
+          → gs ≡ zeroFrom +0 0 (c .grades)
+          → ks ≡ zeroFrom +0 0 (c .curves)
+          → ss ≡ zeroFrom +0 0 (c .speeds)
+          → ps ≡ putRecord two ss 0 (record { 0 = +0; 1 = topSpeed train })
+          → ws ≡ zeroFrom +0 0 (c .powers)
+          → ds ≡ zeroFrom 0 0 (c .districts)
+          → left (record { answer = done; path = p }) (columns os ns gs ks ps ws ds) ≡ newOf train c
+      made-by v e₁ e₂ e₃ e₄ e₅ e₆ e₇ e₈ =
+          let w = within-start v in
+          cc (made (sym one ∙ yes) w, zeroed w, record-is, e₁, e₂, e₃, e₄, e₅, e₆, e₇, e₈)

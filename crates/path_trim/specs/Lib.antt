@@ -1,0 +1,2 @@
+-- The definitions of the crate `path_trim`: the calls that make a path, close it and cut it.
+pub mod New

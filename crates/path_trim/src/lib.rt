@@ -1,0 +1,2 @@
+// Calls that make a path, close it and cut it: path_tpc.rs without `extend` and `recalc_speeds`.
+pub mod new; // a path without links
