@@ -3,6 +3,7 @@ use Prim.Native.Nat.{ℕ, _*_, _/_, _≤_, _<_}
 use native.Mathlib.Omega.{arith}
 use mathlib.Core.Path.{_≡_, refl}
 use mathlib.Core.Bool.{Bool, true, false, not, _&&_, _||_, false≢true}
+use lib.Dec.{leb}
 use borrow.Author.Tests.{leb-true}
 use Rattle.speed.specs.Column.{points}
 use Rattle.lookup.specs.Coeff.{coeffs}
@@ -13,11 +14,11 @@ use Rattle.path.specs.Sound.{oneOfEach, withinBounds, addUp, totals, clo
 use Rattle.path.proofs.LinkPoints.{link-at}
 use Rattle.path.proofs.ReadBack.{counted, Within}
 
-and-both : (a b : Bool) → (a && b) ≡ true → (a ≡ true) × (b ≡ true)
+pub and-both : (a b : Bool) → (a && b) ≡ true → (a ≡ true) × (b ≡ true)
 and-both true b e = (refl, e)
 and-both false b e = absurd (false≢true e)
 
-within-all : (n bound a b : ℕ) → withinAll n bound a b ≡ true → (n ≤ bound) × (n ≤ a) × (n ≤ b)
+pub within-all : (n bound a b : ℕ) → withinAll n bound a b ≡ true → (n ≤ bound) × (n ≤ a) × (n ≤ b)
 within-all n bound a b e =
     let t = and-both _ _ e in
     let u = and-both _ _ (t .1) in
@@ -26,7 +27,7 @@ within-all n bound a b e =
 twice : (n k : ℕ) → n ≤ k / 2 → 2 * n ≤ k
 twice n k h = omega arith
 
-thrice : (n k : ℕ) → n ≤ k / 3 → 3 * n ≤ k
+pub thrice : (n k : ℕ) → n ≤ k / 3 → 3 * n ≤ k
 thrice n k h = omega arith
 
 fourfold : (n k : ℕ) → n ≤ k / 4 → 4 * n ≤ k
@@ -47,10 +48,24 @@ module _ (p : PathTpc) (c : Columns) where
     unfolding sound
     sound-more e = rw (one, e)
 
+  pub sound-within : sound p c ≡ true → (oneOfEach p ≡ true) × (withinBounds p c ≡ true)
+  unfolding sound
+  sound-within e =
+      let t = and-both _ _ e in
+      (t .0, and-both _ _ (t .1) .0)
+
   -- ---- what the counts are once they are judged
   pub some-link : oneOfEach p ≡ true → 0 < p .«link_count»
   unfolding oneOfEach
   some-link e = leb-true 1 (p .«link_count») (and-both _ _ e .0)
+
+  pub some-records : oneOfEach p ≡ true → (0 < p .«grade_count») × (0 < p .«curve_count»)
+  unfolding oneOfEach
+  some-records e =
+      let l = and-both (leb 1 (p .«link_count»)) _ e in
+      let g = and-both (leb 1 (p .«grade_count»)) _ (l .1) in
+      let k = and-both (leb 1 (p .«curve_count»)) (leb 1 (p .«speed_count»)) (g .1) in
+      (leb-true 1 (p .«grade_count») (g .0), leb-true 1 (p .«curve_count») (k .0))
 
   module _ (e : withinBounds p c ≡ true) where
     -- the counts lie within their bounds

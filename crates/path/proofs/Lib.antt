@@ -1,6 +1,7 @@
 -- Laws of the definitions.
 pub mod Clauses
 pub mod Counts
+pub mod InTurn
 pub mod LinkPoints
 pub mod Ordered
 pub mod ReadBack

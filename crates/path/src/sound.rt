@@ -18,7 +18,7 @@ fn one_of_each(p: PathTpc) -> bool
 }
 
 // Whether n records lie within a bound and within what two columns hold.
-fn within(n: usize, bound: usize, a: usize, b: usize) -> bool
+pub fn within(n: usize, bound: usize, a: usize, b: usize) -> bool
     ensures { λ r. ⌜ r ≡ withinAll n bound a b ⌝ }
 {
     (n <= bound) & ((n <= a) & (n <= b))

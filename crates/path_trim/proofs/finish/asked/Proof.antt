@@ -1,0 +1,12 @@
+-- `asked`: yes, and no.
+use Rattle.path_trim.proofs.finish.asked.Statement.{statement}
+use Rattle.path_trim.proofs.finish.asked.Tie as tie
+
+returns : tie.Need-returns
+returns c = rw (c .if1 .taken)
+
+returns-2 : tie.Need-returns-2
+returns-2 c = rw (c .if1 .left)
+
+pub asked-spec : {M : Type 1} → statement M
+asked-spec = tie.close (tie.spec returns returns-2)

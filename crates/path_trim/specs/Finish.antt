@@ -1,0 +1,58 @@
+-- `finish`: document 01, path_tpc.rs. Definitions only.
+use Prim.Native.Nat.{_+_}
+use mathlib.Core.Bool.{true, _&&_}
+use mathlib.Core.List.{List, [], _∷_, _++_}
+use Rattle.ieee.specs.Number.{+0, +∞}
+use Rattle.column.specs.declared.Three.{Three}
+use Rattle.lookup.specs.declared.path_res_coeff.PathResCoeff.{PathResCoeff}
+use Rattle.lookup.specs.Coeff.{resCoeff, netOf}
+use Rattle.path.specs.declared.path_tpc.PathTpc.{PathTpc}
+use Rattle.path.specs.declared.path_tpc.Answer.{Answer}
+use Rattle.path.specs.Records.{Columns, Path, fitsGrades, fitsCurves, lastCoeff, pathOf}
+use Rattle.path.specs.Answers.{ask, inTurn, Outcome, outcome}
+use Rattle.path.specs.Sound.{pathFinite, sound, isOpen}
+
+-- "adds a grade and a curve record at +infinity", with the last one's net value
+abbrev pub closing : List PathResCoeff → List PathResCoeff
+closing gs = gs ++ resCoeff +∞ +0 (netOf (lastCoeff gs)) ∷ []
+
+-- its three entries, after those of the last record
+abbrev pub closingEntry : Three → Three
+closingEntry last = record { 0 = +∞; 1 = +0; 2 = last .2 }
+
+unfoldable pub finishedPath : Path → Path
+finishedPath path =
+    record {
+      links = path .links;
+      grades = closing (path .grades);
+      curves = closing (path .curves);
+      speeds = path .speeds;
+      powers = path .powers;
+      finished = true;
+    }
+
+-- its record, where p is the record before
+abbrev pub closedRecord : PathTpc → PathTpc
+closedRecord p =
+    record {
+      «link_count» = p .«link_count»;
+      «grade_count» = p .«grade_count» + 1;
+      «curve_count» = p .«curve_count» + 1;
+      «speed_count» = p .«speed_count»;
+      «power_count» = p .«power_count»;
+      «is_finished» = true;
+    }
+
+unfoldable pub finishAnswer : PathTpc → Columns → Answer
+unfolding pathFinite sound inTurn
+finishAnswer p c =
+    inTurn (
+    ask 1 (pathFinite p c)
+    ∷ ask 2 (sound p c)
+    ∷ ask 3 (isOpen p)
+    ∷ ask 9 (fitsGrades (p .«grade_count» + 1) c && fitsCurves (p .«curve_count» + 1) c)
+    ∷ [])
+
+unfoldable pub finishOf : PathTpc → Columns → Outcome
+unfolding finishAnswer finishedPath pathOf outcome
+finishOf p c = outcome (finishAnswer p c) p c (finishedPath (pathOf p c))

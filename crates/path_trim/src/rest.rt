@@ -1,0 +1,29 @@
+// Entries past the counts of a path.
+use path::path_tpc::PathTpc;
+ghost use mathlib.Core.Path.{_≡_};
+ghost use mathlib.Core.Bool.{true};
+ghost use Rattle.path.specs.Records.{Columns, columns, pathOf, columnsOf};
+ghost use Rattle.path.specs.Sound.{withinBounds};
+
+// They become zero.
+pub fn zero_rest(
+    p: PathTpc,
+    offsets: &mut [f64],
+    numbers: &mut [u32],
+    grades: &mut [f64],
+    curves: &mut [f64],
+    speeds: &mut [f64],
+    powers: &mut [f64],
+    districts: &mut [u32],
+)
+    requires { ⌜ withinBounds p (columns (now offsets) (now numbers) (now grades) (now curves) (now speeds) (now powers) (now districts)) ≡ true ⌝ }
+    ensures { λ _. ⌜ _≡_ {A = Columns} (columns (now (offsets .exit)) (now (numbers .exit)) (now (grades .exit)) (now (curves .exit)) (now (speeds .exit)) (now (powers .exit)) (now (districts .exit))) (columnsOf (columns (now (offsets .entry)) (now (numbers .entry)) (now (grades .entry)) (now (curves .entry)) (now (speeds .entry)) (now (powers .entry)) (now (districts .entry))) (pathOf p (columns (now (offsets .entry)) (now (numbers .entry)) (now (grades .entry)) (now (curves .entry)) (now (speeds .entry)) (now (powers .entry)) (now (districts .entry))))) ⌝ }
+{
+    column::floats::zero_from(&mut *offsets, p.link_count);
+    column::words::zero_from(&mut *numbers, 4 * p.link_count);
+    column::floats::zero_from(&mut *grades, 3 * p.grade_count);
+    column::floats::zero_from(&mut *curves, 3 * p.curve_count);
+    column::floats::zero_from(&mut *speeds, 2 * p.speed_count);
+    column::floats::zero_from(&mut *powers, 3 * p.power_count);
+    column::words::zero_from(&mut *districts, p.power_count);
+}
