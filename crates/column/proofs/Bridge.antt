@@ -8,7 +8,7 @@ use lib.ListN.{length, take, drop, getD, set, replicate, length-append, length-d
 use lib.Seq.{slice, sets, sets-eq, drop-append-add, take-append-add, take-at, drop-at, drop-drop, set-split, split-at, take-add, take-length, drop-length, length-take-le}
 use lib.Ieee.{Float}
 use Rattle.column.specs.Entries.{filled, zeroFrom, moveFront, openGap, closeGap, insertAt, removeAt}
-use Rattle.column.specs.Records.{Layout, records, flat, recordAt, putRecord, two, three, four}
+use Rattle.column.specs.Records.{Layout, records, flat, recordAt, putRecord, three, four}
 use Rattle.column.proofs.Filling.{length-filled}
 use Rattle.column.proofs.Gaps.{opened, open-start, open-room, close-room}
 
@@ -280,14 +280,6 @@ module _ {A R : Type 0} (L : Layout A R) (ok : Lawful L) where
       ∙ drop-at (flat L (take j rs)) (flat L (drop j rs)) (L .width * j) front)
 
 -- ---- the three layouts
-pub two-lawful : Lawful two
-two-lawful = record { length-pack = λ r. refl; unpack-pack = λ r l. refl; pack-unpack = back }
-  where
-    back : (l : List Float) → 2 ≤ length l → two .pack (two .unpack l) ≡ take 2 l
-    back [] h = absurd (omega arith)
-    back (a ∷ []) h = absurd (omega arith)
-    back (a ∷ b ∷ l) h = refl
-
 pub three-lawful : Lawful three
 three-lawful = record { length-pack = λ r. refl; unpack-pack = λ r l. refl; pack-unpack = back }
   where

@@ -7,7 +7,7 @@ use mathlib.Core.Path.{_≡_, refl, sym, ap, _∙_}
 use mathlib.Core.Logic.{inl, inr}
 use mathlib.Core.List.{List, [], _∷_, _++_, append-nil, append-assoc}
 use lib.ListN.{length, take, drop, getD, set, replicate, length-append, length-set, length-take, length-replicate, drop-of-length-le, take-append-drop}
-use lib.Seq.{slice, take-suc-set, take-all, take-length, take-set-lt, drop-set-lt, drop-cons, getD-take, set-append-left}
+use lib.Seq.{slice, take-suc-set, take-all, take-length, take-set-lt, drop-set-lt, drop-cons, getD-take}
 use Rattle.ieee.proofs.Round.{split}
 use Rattle.column.specs.Entries.{filled, zeroFrom, moveFront, zeroRange}
 
@@ -29,10 +29,6 @@ module _ {A : Type 0} (z : A) where
   pub length-filled : (n : ℕ) (es : List A) → length es ≤ n → length (filled z n es) ≡ n
   unfolding filled
   length-filled n es h = length-append es (replicate (n - length es) z) ∙ omega (arith, length-replicate (n - length es) z)
-
-  pub set-filled : (n : ℕ) (es : List A) (i : ℕ) (a : A) → i < length es → set (filled z n es) i a ≡ filled z n (set es i a)
-  unfolding filled
-  set-filled n es i a h = set-append-left es (replicate (n - length es) z) i a h ∙ ap (λ (k : ℕ). set es i a ++ replicate (n - k) z) (sym (length-set es i a))
 
   -- ---- from a place to the end
   pub zero-is : (i : ℕ) (l : List A) → zeroFrom z i l ≡ take i l ++ replicate (length l - i) z

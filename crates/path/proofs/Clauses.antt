@@ -1,6 +1,6 @@
 -- Question 2 of a path that is read out of its columns, clause by clause.
 use Prim.Native.Nat.{ℕ, _*_, _/_, _≤_, _<_}
-use native.Mathlib.Omega.{arith}
+use native.Mathlib.Nat.{le-trans, mul-le-mul-left, mul-div-le}
 use mathlib.Core.Path.{_≡_, refl}
 use mathlib.Core.Bool.{Bool, true, false, not, _&&_, _||_, false≢true}
 use lib.Dec.{leb}
@@ -24,14 +24,9 @@ within-all n bound a b e =
     let u = and-both _ _ (t .1) in
     (leb-true n bound (t .0), leb-true n a (u .0), leb-true n b (u .1))
 
-twice : (n k : ℕ) → n ≤ k / 2 → 2 * n ≤ k
-twice n k h = omega arith
-
-pub thrice : (n k : ℕ) → n ≤ k / 3 → 3 * n ≤ k
-thrice n k h = omega arith
-
-fourfold : (n k : ℕ) → n ≤ k / 4 → 4 * n ≤ k
-fourfold n k h = omega arith
+-- n records of w entries, where so many whole records fit
+pub times : (w n k : ℕ) → n ≤ k / w → w * n ≤ k
+times w n k h = le-trans (mul-le-mul-left w h) (mul-div-le k w)
 
 module _ (p : PathTpc) (c : Columns) where
   -- ---- the answer, question by question
@@ -90,11 +85,11 @@ module _ (p : PathTpc) (c : Columns) where
         let powers = within-all _ _ _ _ (s .1) in
         record {
           offsets = links .1;
-          numbers = fourfold _ _ (links .2);
-          grades = thrice _ _ (within-all _ _ _ _ (g .0) .1);
-          curves = thrice _ _ (within-all _ _ _ _ (k .0) .1);
-          speeds = twice _ _ (within-all _ _ _ _ (s .0) .1);
-          powers = thrice _ _ (powers .1);
+          numbers = times 4 _ _ (links .2);
+          grades = times 3 _ _ (within-all _ _ _ _ (g .0) .1);
+          curves = times 3 _ _ (within-all _ _ _ _ (k .0) .1);
+          speeds = times 2 _ _ (within-all _ _ _ _ (s .0) .1);
+          powers = times 3 _ _ (powers .1);
           districts = powers .2;
         }
 

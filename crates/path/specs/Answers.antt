@@ -4,8 +4,6 @@ use Prim.Native.Nat.{ℕ}
 use mathlib.Core.Bool.{Bool, cond}
 use mathlib.Core.List.{List, [], _∷_}
 use lib.Dec.{eqb}
-use Rattle.link.specs.declared.network.Judged.{Judged}
-use Rattle.link.specs.declared.network.Judged.the-variants.{Yes, NoAt}
 use Rattle.path.specs.declared.path_tpc.PathTpc.{PathTpc}
 use Rattle.path.specs.declared.path_tpc.Answer.{Answer}
 use Rattle.path.specs.declared.path_tpc.PathAnswer.{PathAnswer}
@@ -17,14 +15,9 @@ done = record { number = 0; place = 0 }
 abbrev pub isDone : Answer → Bool
 isDone a = eqb (a .number) 0
 
--- question n, put once
+-- question n, with place 0
 abbrev pub ask : ℕ → Bool → Answer
 ask n yes? = cond yes? done (record { number = n; place = 0 })
-
--- question n, put at each position of a list
-abbrev pub askEach : ℕ → Judged → Answer
-askEach n Yes = done
-askEach n (NoAt place) = record { number = n; place = place }
 
 -- the first refusal of a list of answers, and done where there is none
 unfoldable pub inTurn : List Answer → Answer

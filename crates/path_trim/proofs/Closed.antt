@@ -6,12 +6,12 @@ use mathlib.Core.Bool.{Bool, true, false, _&&_}
 use mathlib.Core.List.{List, [], _∷_}
 use lib.ListN.{length, length-append}
 use lib.Ieee.{Float}
-use Rattle.ieee.specs.Number.{+0, +∞}
+use Rattle.ieee.specs.Number.{+0}
 use Rattle.column.specs.Entries.{filled}
-use Rattle.column.specs.Records.{putRecord, recordAt, flat, three}
+use Rattle.column.specs.Records.{putRecord, recordAt, flat}
 use Rattle.column.proofs.Bridge.{length-records, push-filled, read-filled}
 use Rattle.lookup.specs.declared.path_res_coeff.PathResCoeff.{PathResCoeff}
-use Rattle.lookup.specs.Coeff.{triple, noCoeff, resCoeff, netOf, coeffs}
+use Rattle.lookup.specs.Coeff.{triple, noCoeff, coeffs}
 use Rattle.lookup.proofs.Coeffs.{triple-lawful}
 use Rattle.path.specs.declared.path_tpc.PathTpc.{PathTpc}
 use Rattle.path.specs.declared.path_tpc.Answer.{Answer}
@@ -20,23 +20,21 @@ use Rattle.path.specs.Answers.{ask, done, left}
 use Rattle.path.specs.Sound.{pathFinite, sound, isOpen}
 use Rattle.path.proofs.ReadBack.{counted}
 use Rattle.path.proofs.InTurn.{first-no, first-yes, first-done, last-one, outcome-refused, outcome-done}
-use Rattle.path.proofs.Clauses.{and-both, within-all, thrice, sound-within, some-records}
-use Rattle.path_trim.specs.Finish.{closing, closingEntry, closedRecord, finishedPath, finishAnswer, finishOf}
+use Rattle.path.proofs.Clauses.{and-both, within-all, times, sound-within, some-records}
+use Rattle.path_trim.specs.Finish.{closing, closingAfter, closedRecord, finishedPath, finishAnswer, finishOf}
 
 -- ---- one record more in a column that holds records
-pub closed-column :
+closed-column :
     (n : ℕ) (gs : List PathResCoeff)
     → 0 < length gs
     → 3 * suc (length gs) ≤ n
-    → putRecord three (filled +0 n (flat triple gs)) (length gs) (closingEntry (recordAt three (filled +0 n (flat triple gs)) (length gs - 1))) ≡ filled +0 n (flat triple (closing gs))
-unfolding putRecord recordAt
+    → putRecord triple (filled +0 n (flat triple gs)) (length gs) (closingAfter (recordAt triple (filled +0 n (flat triple gs)) (length gs - 1))) ≡ filled +0 n (flat triple (closing gs))
 closed-column n gs some room =
-    let last = read-filled triple triple-lawful +0 n gs (length gs - 1) noCoeff (omega arith) in
-    ap (λ (g : PathResCoeff). putRecord triple (filled +0 n (flat triple gs)) (length gs) (resCoeff +∞ +0 (netOf g))) last
-    ∙ push-filled triple triple-lawful +0 n gs (resCoeff +∞ +0 (netOf (lastCoeff gs))) room
+    ap (λ (g : PathResCoeff). putRecord triple (filled +0 n (flat triple gs)) (length gs) (closingAfter g)) (read-filled triple triple-lawful +0 n gs (length gs - 1) noCoeff (omega arith))
+    ∙ push-filled triple triple-lawful +0 n gs (closingAfter (lastCoeff gs)) room
 
 length-closing : (gs : List PathResCoeff) → length (closing gs) ≡ length gs + 1
-length-closing gs = length-append gs (resCoeff +∞ +0 (netOf (lastCoeff gs)) ∷ [])
+length-closing gs = length-append gs (closingAfter (lastCoeff gs) ∷ [])
 
 closed-at :
     (n m : ℕ) (l : List Float) (gs : List PathResCoeff)
@@ -44,9 +42,9 @@ closed-at :
     → l ≡ filled +0 n (flat triple gs)
     → 0 < m
     → 3 * (m + 1) ≤ n
-    → putRecord three l m (closingEntry (recordAt three l (m - 1))) ≡ filled +0 n (flat triple (closing gs))
+    → putRecord triple l m (closingAfter (recordAt triple l (m - 1))) ≡ filled +0 n (flat triple (closing gs))
 closed-at n m l gs e h some room =
-    ap₂ (λ (k : ℕ) (x : List Float). putRecord three x k (closingEntry (recordAt three x (k - 1)))) (sym e) h ∙ closed-column n gs (omega arith) (omega arith)
+    ap₂ (λ (k : ℕ) (x : List Float). putRecord triple x k (closingAfter (recordAt triple x (k - 1)))) (sym e) h ∙ closed-column n gs (omega arith) (omega arith)
 
 -- columns with other grades and curves
 abbrev withRecords : List Float → List Float → Columns → Columns
@@ -109,8 +107,8 @@ module _ (p : PathTpc) (c : Columns) where
       {q : PathTpc} {os gs ks ss ws gs′ ks′ : List Float} {ns ds : List ℕ}
       → finishAnswer p c .number ≡ 0
       → columns os ns gs ks ss ws ds ≡ columnsOf c (pathOf p c)
-      → gs′ ≡ putRecord three gs (p .«grade_count») (closingEntry (recordAt three gs (p .«grade_count» - 1)))
-      → ks′ ≡ putRecord three ks (p .«curve_count») (closingEntry (recordAt three ks (p .«curve_count» - 1)))
+      → gs′ ≡ putRecord triple gs (p .«grade_count») (closingAfter (recordAt triple gs (p .«grade_count» - 1)))
+      → ks′ ≡ putRecord triple ks (p .«curve_count») (closingAfter (recordAt triple ks (p .«curve_count» - 1)))
       → q ≡ closedRecord p
       → left (record { answer = done; path = q }) (columns os ns gs′ ks′ ss ws ds) ≡ finishOf p c
   unfolding finishOf columnsOf finishedPath pathOf
@@ -120,7 +118,7 @@ module _ (p : PathTpc) (c : Columns) where
       let fit = and-both (fitsGrades (p .«grade_count» + 1) c) (fitsCurves (p .«curve_count» + 1) c) (known .1) in
       let room-g = within-all _ _ _ _ (fit .0) .1 in
       let room-k = within-all _ _ _ _ (fit .1) .1 in
-      let g′ = closed-at (length (c .grades)) (p .«grade_count») _ (coeffs (p .«grade_count») (c .grades)) (length-records triple triple-lawful (p .«grade_count») (c .grades)) (ap (λ (l : Columns). l .grades) e) (some .0) (thrice _ _ room-g) in
-      let k′ = closed-at (length (c .curves)) (p .«curve_count») _ (coeffs (p .«curve_count») (c .curves)) (length-records triple triple-lawful (p .«curve_count») (c .curves)) (ap (λ (l : Columns). l .curves) e) (some .1) (thrice _ _ room-k) in
+      let g′ = closed-at (length (c .grades)) (p .«grade_count») _ (coeffs (p .«grade_count») (c .grades)) (length-records triple triple-lawful (p .«grade_count») (c .grades)) (ap (λ (l : Columns). l .grades) e) (some .0) (times 3 _ _ room-g) in
+      let k′ = closed-at (length (c .curves)) (p .«curve_count») _ (coeffs (p .«curve_count») (c .curves)) (length-records triple triple-lawful (p .«curve_count») (c .curves)) (ap (λ (l : Columns). l .curves) e) (some .1) (times 3 _ _ room-k) in
       let cols = ap (withRecords _ _) e ∙ ap₂ (λ (a b : List Float). withRecords a b (columnsOf c (pathOf p c))) (g ∙ g′) (k ∙ k′) in
       ap₂ (λ (q : PathTpc) (l : Columns). left (record { answer = done; path = q }) l) (r ∙ sym counts) cols ∙ sym (outcome-done (finishAnswer p c) p c (finishedPath (pathOf p c)) h)

@@ -1,4 +1,4 @@
 -- Laws of the definitions.
 pub mod Made
-pub mod Rested
+pub mod PastCounts
 pub mod Closed

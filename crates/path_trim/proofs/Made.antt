@@ -18,12 +18,14 @@ use Rattle.speed.proofs.Held.{pair-lawful}
 use Rattle.link.specs.declared.train_params.TrainParams.{TrainParams}
 use Rattle.link.specs.Train.{topSpeed}
 use Rattle.path.specs.declared.path_tpc.PathTpc.{PathTpc}
+use Rattle.path.specs.declared.path_tpc.Answer.{Answer}
 use Rattle.path.specs.declared.path_tpc.PathAnswer.{PathAnswer}
 use Rattle.path.specs.Records.{Columns, columns, columnsOf, recordOf}
-use Rattle.path.specs.Answers.{done, inTurn, outcome, left}
+use Rattle.path.specs.Answers.{done, ask, outcome, left}
 use Rattle.path.specs.Sound.{trainFinite, withinBounds}
+use Rattle.path.proofs.InTurn.{first-no, first-yes, last-one, outcome-refused, outcome-done}
 use Rattle.path.proofs.Clauses.{room}
-use Rattle.path_trim.specs.New.{newPath, start, newAnswer, refusedNew, newOf}
+use Rattle.path_trim.specs.New.{newPath, start, newAnswer, noPath, refusedNew, newOf}
 
 -- one record in a column of zeros
 one-point : (c : List Float) (p : Two) → 2 ≤ length c → putRecord two (zeroFrom +0 0 c) 0 p ≡ filled +0 (length c) (flat pair (point (p .0) (p .1) ∷ []))
@@ -33,21 +35,29 @@ one-point c p h =
     ∙ push-filled pair pair-lawful +0 (length c) [] (point (p .0) (p .1)) (omega arith)
 
 module _ (train : TrainParams) (c : Columns) where
-  pub refused-1 : trainFinite train ≡ false → newOf train c ≡ left (refusedNew 1) c
-  unfolding newOf newAnswer outcome inTurn
-  refused-1 e = rw e
+  -- what is left where the answer is a, and where it is done
+  answered : {a : Answer} → newAnswer train c ≡ a → (a .number ≡ 0 → ⊥) → newOf train c ≡ left (record { answer = a; path = noPath }) c
+  unfolding newOf
+  answered e h = ap (λ (b : Answer). outcome b noPath c (newPath train)) e ∙ outcome-refused _ noPath c (newPath train) h
+
+  refused-1 : trainFinite train ≡ false → newOf train c ≡ left (refusedNew 1) c
+  unfolding newAnswer
+  refused-1 e = answered (first-no 0 (ask 9 (withinBounds start c) ∷ []) e) (λ h. omega arith)
 
   module _ (t : trainFinite train ≡ true) where
-    pub refused-9 : withinBounds start c ≡ false → newOf train c ≡ left (refusedNew 9) c
-    unfolding newOf newAnswer outcome inTurn
-    refused-9 e = rw (t, e)
+    room-asked : newAnswer train c ≡ ask 9 (withinBounds start c)
+    unfolding newAnswer
+    room-asked = first-yes 0 (ask 9 (withinBounds start c) ∷ []) t ∙ last-one 8 (withinBounds start c)
 
-    pub made : withinBounds start c ≡ true → newOf train c ≡ left (record { answer = done; path = start }) (columnsOf c (newPath train))
-    unfolding newOf newAnswer outcome inTurn recordOf newPath
-    made e = rw (t, e)
+    refused-9 : withinBounds start c ≡ false → newOf train c ≡ left (refusedNew 9) c
+    refused-9 e = answered (room-asked ∙ ap (ask 9) e) (λ h. omega arith)
+
+    made : withinBounds start c ≡ true → newOf train c ≡ left (record { answer = done; path = start }) (columnsOf c (newPath train))
+    unfolding newOf recordOf newPath
+    made e = outcome-done (newAnswer train c) noPath c (newPath train) (ap (λ (a : Answer). a .number) (room-asked ∙ ap (ask 9) e))
 
   -- the columns as the code leaves them
-  pub zeroed :
+  zeroed :
       withinBounds start c ≡ true
       → columns (zeroFrom +0 0 (c .offsets)) (zeroFrom 0 0 (c .numbers)) (zeroFrom +0 0 (c .grades)) (zeroFrom +0 0 (c .curves))
       (putRecord two (zeroFrom +0 0 (c .speeds)) 0 (record { 0 = +0; 1 = topSpeed train })) (zeroFrom +0 0 (c .powers)) (zeroFrom 0 0 (c .districts))

@@ -3,7 +3,6 @@ use Prim.Native.Nat.{_+_}
 use mathlib.Core.Bool.{true, _&&_}
 use mathlib.Core.List.{List, [], _∷_, _++_}
 use Rattle.ieee.specs.Number.{+0, +∞}
-use Rattle.column.specs.declared.Three.{Three}
 use Rattle.lookup.specs.declared.path_res_coeff.PathResCoeff.{PathResCoeff}
 use Rattle.lookup.specs.Coeff.{resCoeff, netOf}
 use Rattle.path.specs.declared.path_tpc.PathTpc.{PathTpc}
@@ -12,13 +11,13 @@ use Rattle.path.specs.Records.{Columns, Path, fitsGrades, fitsCurves, lastCoeff
 use Rattle.path.specs.Answers.{ask, inTurn, Outcome, outcome}
 use Rattle.path.specs.Sound.{pathFinite, sound, isOpen}
 
--- "adds a grade and a curve record at +infinity", with the last one's net value
-abbrev pub closing : List PathResCoeff → List PathResCoeff
-closing gs = gs ++ resCoeff +∞ +0 (netOf (lastCoeff gs)) ∷ []
+-- the record at +infinity after the last one: its coefficient is 0, its net value the last one's
+abbrev pub closingAfter : PathResCoeff → PathResCoeff
+closingAfter last = resCoeff +∞ +0 (netOf last)
 
--- its three entries, after those of the last record
-abbrev pub closingEntry : Three → Three
-closingEntry last = record { 0 = +∞; 1 = +0; 2 = last .2 }
+-- "adds a grade and a curve record at +infinity"
+abbrev pub closing : List PathResCoeff → List PathResCoeff
+closing gs = gs ++ closingAfter (lastCoeff gs) ∷ []
 
 unfoldable pub finishedPath : Path → Path
 finishedPath path =

@@ -1,28 +1,36 @@
 // `finish`: a grade and a curve record at +infinity close a path.
 use crate::rest::zero_rest;
-use column::Three;
-use column::floats::put_three;
-use column::floats::three_at;
+use lookup::path_res_coeff::PathResCoeff;
+use lookup::path_res_coeff::coeff_at;
+use lookup::path_res_coeff::put_coeff;
 use path::finite::path_finite;
 use path::path_tpc::Answer;
 use path::path_tpc::PathAnswer;
 use path::path_tpc::PathTpc;
 use path::sound::path_sound;
 use path::sound::within;
+use si::Length;
+use si::Ratio;
 ghost use mathlib.Core.Path.{_≡_};
 ghost use Prim.Native.Nat.{_-_, _<_, _≤_};
-ghost use Rattle.column.specs.Records.{recordAt, putRecord, three};
+ghost use Rattle.column.specs.Records.{recordAt, putRecord};
+ghost use Rattle.lookup.specs.Coeff.{triple};
 ghost use Rattle.path.specs.Records.{columns};
 ghost use Rattle.path.specs.Answers.{Outcome, left, ask};
-ghost use Rattle.path_trim.specs.Finish.{closingEntry, closedRecord, finishAnswer, finishOf};
+ghost use Rattle.path_trim.specs.Finish.{closingAfter, closedRecord, finishAnswer, finishOf};
 
 // The record after the m of a column: at +infinity, coefficient 0, the last one's net value.
 fn close(col: &mut [f64], m: usize)
     requires { ⌜ 0 < m ⌝ }
-    ensures { λ _. ⌜ now (col .exit) ≡ putRecord three (now (col .entry)) m (closingEntry (recordAt three (now (col .entry)) (m - 1))) ⌝ }
+    ensures { λ _. ⌜ now (col .exit) ≡ putRecord triple (now (col .entry)) m (closingAfter (recordAt triple (now (col .entry)) (m - 1))) ⌝ }
 {
-    let last = three_at(&*col, m - 1);
-    put_three(&mut *col, m, Three(1.0 / 0.0, 0.0, last.2));
+    let last = coeff_at(&*col, m - 1);
+    let closing = PathResCoeff {
+        offset: Length(1.0 / 0.0),
+        res_coeff: Ratio(0.0),
+        res_net: Length(last.res_net.0),
+    };
+    put_coeff(&mut *col, m, closing);
 }
 
 fn asked(number: u32, yes: bool) -> Answer

@@ -5,14 +5,14 @@ use borrow.Author.Needs.{needs}
 use Rattle.path_trim.proofs.finish.close.Statement.{statement}
 use Rattle.path_trim.proofs.finish.close.Tie as tie
 
-sub-three-at : tie.Need-sub-three-at
-sub-three-at c = search needs
+sub-coeff-at : tie.Need-sub-coeff-at
+sub-coeff-at c = search needs
 
-three-at-requires : tie.Need-three-at-requires
-three-at-requires c κs = search needs
+coeff-at-requires : tie.Need-coeff-at-requires
+coeff-at-requires c κs = search needs
 
-put-three-requires : tie.Need-put-three-requires
-put-three-requires c κs = search needs
+put-coeff-requires : tie.Need-put-coeff-requires
+put-coeff-requires c κs = search needs
 
 same-length : tie.Need-same-length
 same-length c = search needs
@@ -23,4 +23,4 @@ returns c = cc infinity
 
 pub close-spec : {M : Type 1} → statement M
 close-spec =
-    tie.close (tie.spec sub-three-at three-at-requires put-three-requires same-length returns)
+    tie.close (tie.spec sub-coeff-at coeff-at-requires put-coeff-requires same-length returns)

@@ -2,7 +2,7 @@
 use native.Mathlib.Omega.{arith}
 use Rattle.path.specs.Records.{columns}
 use Rattle.path.proofs.Clauses.{bounds}
-use Rattle.path_trim.proofs.Rested.{rested}
+use Rattle.path_trim.proofs.PastCounts.{zeroed}
 use borrow.Author.Needs.{needs}
 use Rattle.path_trim.proofs.rest.zero_rest.Statement.{statement}
 use Rattle.path_trim.proofs.rest.zero_rest.Tie as tie
@@ -83,7 +83,7 @@ returns : tie.Need-returns
 returns c =
     let a = c .before .before .before .before .before .before .before .before .before .before .before .before .before .before .before .before .before .before .before .before .before .before .before .before .before .before .before .before .before .before .before .before .before .before .before .before .before .before .before .before .args in
     let l = columns (a .offsets .now) (a .numbers .now) (a .grades .now) (a .curves .now) (a .speeds .now) (a .powers .now) (a .districts .now) in
-    rested (a .p) l (c .before .before .before .before .before .before .before .before .before .before .before .before .before .before .before .before .before .before .before .before .before .before .before .before .before .before .before .before .before .before .before .before .before .before .before .before .before .before .before .before .pre) (c .before .before .before .before .before .before .before .before .before .before .before .before .before .before .before .before .before .before .before .before .before .before .before .before .before .before .before .before .before .before .before .zero-from .ensures) (c .before .before .before .before .before .before .before .before .before .before .before .before .before .before .before .before .before .before .before .before .before .before .before .before .before .before .zero-from2 .ensures) (c .before .before .before .before .before .before .before .before .before .before .before .before .before .before .before .before .before .before .before .before .before .zero-from3 .ensures) (c .before .before .before .before .before .before .before .before .before .before .before .before .before .before .before .before .zero-from4 .ensures) (c .before .before .before .before .before .before .before .before .before .before .before .zero-from5 .ensures) (c .before .before .before .before .before .before .zero-from6 .ensures) (c .before .before .zero-from7 .ensures)
+    zeroed (a .p) l (c .before .before .before .before .before .before .before .before .before .before .before .before .before .before .before .before .before .before .before .before .before .before .before .before .before .before .before .before .before .before .before .before .before .before .before .before .before .before .before .before .pre) (c .before .before .before .before .before .before .before .before .before .before .before .before .before .before .before .before .before .before .before .before .before .before .before .before .before .before .before .before .before .before .before .zero-from .ensures) (c .before .before .before .before .before .before .before .before .before .before .before .before .before .before .before .before .before .before .before .before .before .before .before .before .before .before .zero-from2 .ensures) (c .before .before .before .before .before .before .before .before .before .before .before .before .before .before .before .before .before .before .before .before .before .zero-from3 .ensures) (c .before .before .before .before .before .before .before .before .before .before .before .before .before .before .before .before .zero-from4 .ensures) (c .before .before .before .before .before .before .before .before .before .before .before .zero-from5 .ensures) (c .before .before .before .before .before .before .zero-from6 .ensures) (c .before .before .zero-from7 .ensures)
 
 pub zero-rest-spec : {M : Type 1} → statement M
 zero-rest-spec =

@@ -12,7 +12,7 @@ use Rattle.path.specs.Sound.{withinBounds}
 use Rattle.path.proofs.ReadBack.{tidy}
 use Rattle.path.proofs.Clauses.{room}
 
-pub rested :
+pub zeroed :
     (p : PathTpc) (c : Columns) {os gs ks ss ws : List Float} {ns ds : List ℕ}
     → withinBounds p c ≡ true
     → os ≡ zeroFrom +0 (p .«link_count») (c .offsets)
@@ -23,4 +23,4 @@ pub rested :
     → ws ≡ zeroFrom +0 (3 * p .«power_count») (c .powers)
     → ds ≡ zeroFrom 0 (p .«power_count») (c .districts)
     → columns os ns gs ks ss ws ds ≡ columnsOf c (pathOf p c)
-rested p c e e₁ e₂ e₃ e₄ e₅ e₆ e₇ = cc (tidy p c (room p c e), e₁, e₂, e₃, e₄, e₅, e₆, e₇)
+zeroed p c e e₁ e₂ e₃ e₄ e₅ e₆ e₇ = cc (tidy p c (room p c e), e₁, e₂, e₃, e₄, e₅, e₆, e₇)
