@@ -1,33 +1,76 @@
 -- Questions in turn: the first no is the answer, and done says that each was answered with yes. What a call leaves, refused and done.
 use Prim.Native.Nat.{ℕ, suc}
 use native.Mathlib.Omega.{arith}
-use mathlib.Core.Path.{_≡_, refl, sym, ap, _∙_}
-use mathlib.Core.Bool.{Bool, true, false}
+use mathlib.Core.Path.{_≡_, refl, sym, ap, ap₂, _∙_}
+use mathlib.Core.Bool.{Bool, true, false, _&&_}
 use mathlib.Core.List.{List, [], _∷_}
-use borrow.Author.Tests.{eq-eqb, ne-eqb}
+use lib.Dec.{eqb}
+use borrow.Author.Tests.{eq-eqb, ne-eqb, eqb-true, eqb-false}
 use Rattle.path.specs.declared.path_tpc.Answer.{Answer}
 use Rattle.path.specs.declared.path_tpc.PathTpc.{PathTpc}
 use Rattle.path.specs.Records.{Columns, Path, recordOf, columnsOf}
 use Rattle.path.specs.Answers.{done, ask, inTurn, outcome, left}
+use Rattle.path.specs.Sound.{pathFinite, sound, pathAnswer}
+use Rattle.path.proofs.Clauses.{and-both}
+
+-- r is the code's answer to the first question
+module _ (a : Answer) (rest : List Answer) where
+  pub turn-no : {r : Answer} → r ≡ a → (r .number ≡ 0 → ⊥) → inTurn (a ∷ rest) ≡ r
+  unfolding inTurn
+  turn-no e h = rw (ne-eqb (a .number) 0 (λ k. h (ap (λ (b : Answer). b .number) e ∙ k))) (sym e)
+
+  pub turn-yes : {r : Answer} → r ≡ a → r .number ≡ 0 → inTurn (a ∷ rest) ≡ inTurn rest
+  unfolding inTurn
+  turn-yes e h = rw (eq-eqb (a .number) 0 (ap (λ (b : Answer). b .number) (sym e) ∙ h))
+
+  pub turn-done : inTurn (a ∷ rest) .number ≡ 0 → (a .number ≡ 0) × (inTurn rest .number ≡ 0)
+  unfolding inTurn
+  turn-done h = go (eqb (a .number) 0) refl
+    where
+      go : (b : Bool) → eqb (a .number) 0 ≡ b → (a .number ≡ 0) × (inTurn rest .number ≡ 0)
+      go true e = let z = eqb-true (a .number) 0 e in (z, sym (ap (λ (r : Answer). r .number) (turn-yes refl z)) ∙ h)
+      go false e = let z : a .number ≡ 0 = sym (ap (λ (r : Answer). r .number) (turn-no refl (eqb-false (a .number) 0 e))) ∙ h in absurd (eqb-false (a .number) 0 e z)
 
 module _ (n : ℕ) (rest : List Answer) where
   pub first-no : {b : Bool} → b ≡ false → inTurn (ask (suc n) b ∷ rest) ≡ ask (suc n) false
-  unfolding inTurn
-  first-no e = rw (e, ne-eqb (suc n) 0 (λ h. omega arith))
+  first-no e = ap (λ (b : Bool). inTurn (ask (suc n) b ∷ rest)) e ∙ turn-no (ask (suc n) false) rest refl (λ h. omega arith)
 
   pub first-yes : {b : Bool} → b ≡ true → inTurn (ask (suc n) b ∷ rest) ≡ inTurn rest
-  unfolding inTurn
-  first-yes e = rw e
+  first-yes e = ap (λ (b : Bool). inTurn (ask (suc n) b ∷ rest)) e ∙ turn-yes done rest refl refl
 
   pub first-done : (b : Bool) → inTurn (ask (suc n) b ∷ rest) .number ≡ 0 → (b ≡ true) × (inTurn rest .number ≡ 0)
-  unfolding inTurn
-  first-done true h = (refl, h)
-  first-done false h = let e : suc n ≡ 0 = sym (ap (λ (a : Answer). a .number) (first-no refl)) ∙ h in absurd (omega arith)
+  first-done true h = (refl, turn-done done rest h .1)
+  first-done false h = let e = turn-done (ask (suc n) false) rest h .0 in absurd (omega arith)
 
 pub last-one : (n : ℕ) (b : Bool) → inTurn (ask (suc n) b ∷ []) ≡ ask (suc n) b
 unfolding inTurn
 last-one n true = refl
 last-one n false = first-no n [] refl
+
+-- ---- questions 1 and 2
+module _ (also : Bool) (p : PathTpc) (c : Columns) where
+  pub judged-else : also ≡ false → pathAnswer also p c ≡ ask 1 false
+  unfolding pathAnswer
+  judged-else e = first-no 0 (ask 2 (sound p c) ∷ []) (ap (λ (b : Bool). pathFinite p c && b) e ∙ go (pathFinite p c))
+    where
+      go : (b : Bool) → (b && false) ≡ false
+      go true = refl
+      go false = refl
+
+  pub judged-1 : pathFinite p c ≡ false → pathAnswer also p c ≡ ask 1 false
+  unfolding pathAnswer
+  judged-1 e = first-no 0 (ask 2 (sound p c) ∷ []) (ap (λ (b : Bool). b && also) e)
+
+  pub judged-2 : also ≡ true → pathFinite p c ≡ true → pathAnswer also p c ≡ ask 2 (sound p c)
+  unfolding pathAnswer
+  judged-2 e f = first-yes 0 (ask 2 (sound p c) ∷ []) (ap₂ _&&_ f e) ∙ last-one 1 (sound p c)
+
+  pub judged-done : {r : Answer} → r ≡ pathAnswer also p c → r .number ≡ 0 → (also ≡ true) × (pathFinite p c ≡ true) × (sound p c ≡ true)
+  unfolding pathAnswer
+  judged-done e h =
+      let one = first-done 0 (ask 2 (sound p c) ∷ []) (pathFinite p c && also) (ap (λ (b : Answer). b .number) (sym e) ∙ h) in
+      let both = and-both (pathFinite p c) also (one .0) in
+      (both .1, both .0, first-done 1 [] (sound p c) (one .1) .0)
 
 -- ---- what a call leaves
 module _ (a : Answer) (p : PathTpc) (c : Columns) (after : Path) where

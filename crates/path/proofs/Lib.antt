@@ -4,4 +4,5 @@ pub mod Counts
 pub mod InTurn
 pub mod LinkPoints
 pub mod Ordered
+pub mod PastCounts
 pub mod ReadBack

@@ -4,6 +4,8 @@ use Prim.Native.Nat.{ℕ}
 use mathlib.Core.Bool.{Bool, cond}
 use mathlib.Core.List.{List, [], _∷_}
 use lib.Dec.{eqb}
+use Rattle.link.specs.declared.network.Judged.{Judged}
+use Rattle.link.specs.declared.network.Judged.the-variants.{Yes, NoAt}
 use Rattle.path.specs.declared.path_tpc.PathTpc.{PathTpc}
 use Rattle.path.specs.declared.path_tpc.Answer.{Answer}
 use Rattle.path.specs.declared.path_tpc.PathAnswer.{PathAnswer}
@@ -18,6 +20,11 @@ isDone a = eqb (a .number) 0
 -- question n, with place 0
 abbrev pub ask : ℕ → Bool → Answer
 ask n yes? = cond yes? done (record { number = n; place = 0 })
+
+-- question n put to each position in turn
+abbrev pub askEach : ℕ → Judged → Answer
+askEach n Yes = done
+askEach n (NoAt i) = record { number = n; place = i }
 
 -- the first refusal of a list of answers, and done where there is none
 unfoldable pub inTurn : List Answer → Answer

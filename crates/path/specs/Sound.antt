@@ -14,8 +14,10 @@ use Rattle.link.specs.declared.train_params.TrainParams.{TrainParams}
 use Rattle.link.specs.Lists.{every}
 use Rattle.link.specs.Train.{lengthOf, topSpeed, towedMass, massPerBrake, curve0, curve1, curve2}
 use Rattle.path.specs.declared.path_tpc.PathTpc.{PathTpc}
+use Rattle.path.specs.declared.path_tpc.Answer.{Answer}
 use Rattle.path.specs.declared.link_point.LinkPoint.{LinkPoint}
 use Rattle.path.specs.Records.{Columns, fitsLinks, fitsGrades, fitsCurves, fitsSpeeds, fitsPowers, linkPoint, offsetOf, gradeCount, curveCount, powerCount, numberOf, Path, linkPointAt, endPoint, lastCoeff, pathOf, recordOf}
+use Rattle.path.specs.Answers.{ask, inTurn}
 
 -- ---- question 1: "Are the numbers of path, train, position and plain arguments finite, the length in train and position above 0, the top
 -- speed not below 0?"
@@ -146,6 +148,11 @@ soundPath path =
 unfoldable pub sound : PathTpc → Columns → Bool
 unfolding oneOfEach withinBounds soundPath pathOf
 sound p c = oneOfEach p && (withinBounds p c && soundPath (pathOf p c))
+
+-- Every call on a path puts questions 1 and 2 first; `also` is question 1 of its other numbers.
+unfoldable pub pathAnswer : Bool → PathTpc → Columns → Answer
+unfolding pathFinite sound inTurn
+pathAnswer also p c = inTurn (ask 1 (pathFinite p c && also) ∷ ask 2 (sound p c) ∷ [])
 
 -- ---- question 3: "is the path open?"
 

@@ -3,3 +3,5 @@ pub mod link_point; // link_point.rs: single link points, and their counts added
 pub mod path_tpc; // path_tpc.rs: the path's record, and an answer
 pub mod finite; // question 1
 pub mod sound; // question 2
+pub mod answer; // questions 1 and 2 in turn
+pub mod rest; // entries past the counts

@@ -1,7 +1,7 @@
 -- `finish`: refused, and done.
 use Prim.Native.Nat.{ℕ, suc, _+_, _-_, _*_, _≤_, _<_}
 use native.Mathlib.Omega.{arith}
-use mathlib.Core.Path.{_≡_, sym, ap, ap₂, _∙_}
+use mathlib.Core.Path.{_≡_, refl, sym, ap, ap₂, _∙_}
 use mathlib.Core.Bool.{Bool, true, false, _&&_}
 use mathlib.Core.List.{List, [], _∷_}
 use lib.ListN.{length, length-append}
@@ -17,10 +17,10 @@ use Rattle.path.specs.declared.path_tpc.PathTpc.{PathTpc}
 use Rattle.path.specs.declared.path_tpc.Answer.{Answer}
 use Rattle.path.specs.Records.{Columns, columns, fitsGrades, fitsCurves, lastCoeff, pathOf, columnsOf, recordOf}
 use Rattle.path.specs.Answers.{ask, done, left}
-use Rattle.path.specs.Sound.{pathFinite, sound, isOpen}
+use Rattle.path.specs.Sound.{sound, pathAnswer, isOpen}
 use Rattle.path.proofs.ReadBack.{counted}
-use Rattle.path.proofs.InTurn.{first-no, first-yes, first-done, last-one, outcome-refused, outcome-done}
-use Rattle.path.proofs.Clauses.{and-both, within-all, times, sound-within, some-records}
+use Rattle.path.proofs.InTurn.{turn-no, turn-yes, turn-done, first-no, first-yes, first-done, last-one, judged-done, outcome-refused, outcome-done}
+use Rattle.path.proofs.Clauses.{and-both, within-all, times, sound-within, some-records, bounds}
 use Rattle.path_trim.specs.Finish.{closing, closingAfter, closedRecord, finishedPath, finishAnswer, finishOf}
 
 -- ---- one record more in a column that holds records
@@ -55,42 +55,40 @@ module _ (p : PathTpc) (c : Columns) where
   abbrev pub fits : Bool
   fits = fitsGrades (p .«grade_count» + 1) c && fitsCurves (p .«curve_count» + 1) c
 
-  -- those after question 1, after question 2 and after question 3
+  -- those after question 2 and after question 3
   abbrev after3 : List Answer
   after3 = ask 9 fits ∷ []
 
   abbrev after2 : List Answer
   after2 = ask 3 (isOpen p) ∷ after3
 
-  abbrev after1 : List Answer
-  after1 = ask 2 (sound p c) ∷ after2
-
-  pub finish-1 : pathFinite p c ≡ false → finishAnswer p c ≡ ask 1 false
-  unfolding finishAnswer
-  finish-1 e = first-no 0 after1 e
-
-  module _ (t : pathFinite p c ≡ true) where
-    pub finish-2 : sound p c ≡ false → finishAnswer p c ≡ ask 2 false
+  -- r is the code's answer to questions 1 and 2
+  module _ {r : Answer} (e : r ≡ pathAnswer true p c) where
+    pub finish-first : (r .number ≡ 0 → ⊥) → finishAnswer p c ≡ r
     unfolding finishAnswer
-    finish-2 e = first-yes 0 after1 t ∙ first-no 1 after2 e
+    finish-first h = turn-no (pathAnswer true p c) after2 e h
 
-    module _ (s : sound p c ≡ true) where
+    module _ (t : r .number ≡ 0) where
       pub finish-3 : isOpen p ≡ false → finishAnswer p c ≡ ask 3 false
       unfolding finishAnswer
-      finish-3 e = first-yes 0 after1 t ∙ first-yes 1 after2 s ∙ first-no 2 after3 e
+      finish-3 h = turn-yes (pathAnswer true p c) after2 e t ∙ first-no 2 after3 h
 
       pub finish-9 : isOpen p ≡ true → finishAnswer p c ≡ ask 9 fits
       unfolding finishAnswer
-      finish-9 e = first-yes 0 after1 t ∙ first-yes 1 after2 s ∙ first-yes 2 after3 e ∙ last-one 8 fits
+      finish-9 h = turn-yes (pathAnswer true p c) after2 e t ∙ first-yes 2 after3 h ∙ last-one 8 fits
+
+      pub few-records : (p .«grade_count» ≤ 16384) × (p .«curve_count» ≤ 16384)
+      few-records =
+          let b = bounds p c (sound-within p c (judged-done true p c e t .2) .1) in
+          (b .1, b .2)
 
   -- what a call that is not refused knows
   pub finish-done : finishAnswer p c .number ≡ 0 → (sound p c ≡ true) × (fits ≡ true)
   unfolding finishAnswer
   finish-done e =
-      let one = first-done 0 after1 (pathFinite p c) e in
-      let two = first-done 1 after2 (sound p c) (one .1) in
-      let third = first-done 2 after3 (isOpen p) (two .1) in
-      (two .0, first-done 8 [] fits (third .1) .0)
+      let first = turn-done (pathAnswer true p c) after2 e in
+      let third = first-done 2 after3 (isOpen p) (first .1) in
+      (judged-done true p c refl (first .0) .2, first-done 8 [] fits (third .1) .0)
 
   -- ---- what is left
   pub refused : {a : Answer} → a ≡ finishAnswer p c → (a .number ≡ 0 → ⊥) → left (record { answer = a; path = p }) c ≡ finishOf p c

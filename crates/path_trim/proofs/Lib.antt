@@ -1,4 +1,3 @@
 -- Laws of the definitions.
 pub mod Made
-pub mod PastCounts
 pub mod Closed

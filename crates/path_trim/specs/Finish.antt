@@ -9,7 +9,7 @@ use Rattle.path.specs.declared.path_tpc.PathTpc.{PathTpc}
 use Rattle.path.specs.declared.path_tpc.Answer.{Answer}
 use Rattle.path.specs.Records.{Columns, Path, fitsGrades, fitsCurves, lastCoeff, pathOf}
 use Rattle.path.specs.Answers.{ask, inTurn, Outcome, outcome}
-use Rattle.path.specs.Sound.{pathFinite, sound, isOpen}
+use Rattle.path.specs.Sound.{pathAnswer, isOpen}
 
 -- the record at +infinity after the last one: its coefficient is 0, its net value the last one's
 abbrev pub closingAfter : PathResCoeff → PathResCoeff
@@ -43,11 +43,10 @@ closedRecord p =
     }
 
 unfoldable pub finishAnswer : PathTpc → Columns → Answer
-unfolding pathFinite sound inTurn
+unfolding pathAnswer inTurn
 finishAnswer p c =
     inTurn (
-    ask 1 (pathFinite p c)
-    ∷ ask 2 (sound p c)
+    pathAnswer true p c
     ∷ ask 3 (isOpen p)
     ∷ ask 9 (fitsGrades (p .«grade_count» + 1) c && fitsCurves (p .«curve_count» + 1) c)
     ∷ [])

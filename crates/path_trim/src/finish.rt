@@ -1,13 +1,13 @@
 // `finish`: a grade and a curve record at +infinity close a path.
-use crate::rest::zero_rest;
 use lookup::path_res_coeff::PathResCoeff;
 use lookup::path_res_coeff::coeff_at;
 use lookup::path_res_coeff::put_coeff;
-use path::finite::path_finite;
+use path::answer::asked;
+use path::answer::path_answer;
 use path::path_tpc::Answer;
 use path::path_tpc::PathAnswer;
 use path::path_tpc::PathTpc;
-use path::sound::path_sound;
+use path::rest::zero_rest;
 use path::sound::within;
 use si::Length;
 use si::Ratio;
@@ -16,7 +16,7 @@ ghost use Prim.Native.Nat.{_-_, _<_, _≤_};
 ghost use Rattle.column.specs.Records.{recordAt, putRecord};
 ghost use Rattle.lookup.specs.Coeff.{triple};
 ghost use Rattle.path.specs.Records.{columns};
-ghost use Rattle.path.specs.Answers.{Outcome, left, ask};
+ghost use Rattle.path.specs.Answers.{Outcome, left};
 ghost use Rattle.path_trim.specs.Finish.{closingAfter, closedRecord, finishAnswer, finishOf};
 
 // The record after the m of a column: at +infinity, coefficient 0, the last one's net value.
@@ -33,18 +33,6 @@ fn close(col: &mut [f64], m: usize)
     put_coeff(&mut *col, m, closing);
 }
 
-fn asked(number: u32, yes: bool) -> Answer
-    ensures { λ r. ⌜ r ≡ ask number yes ⌝ }
-{
-    if yes {
-        return Answer {
-            number: 0,
-            place: 0,
-        };
-    }
-    Answer { number, place: 0 }
-}
-
 // Questions 1, 2, 3 and 9.
 fn finish_answer(
     p: PathTpc,
@@ -58,8 +46,9 @@ fn finish_answer(
 ) -> Answer
     ensures { λ r. ⌜ r ≡ finishAnswer p (columns (now (offsets .entry)) (now (numbers .entry)) (now (grades .entry)) (now (curves .entry)) (now (speeds .entry)) (now (powers .entry)) (now (districts .entry))) ⌝ }
 {
-    if !path_finite(
+    let first = path_answer(
         p,
+        true,
         offsets,
         numbers,
         grades,
@@ -67,20 +56,9 @@ fn finish_answer(
         speeds,
         powers,
         districts,
-    ) {
-        return asked(1, false);
-    }
-    if !path_sound(
-        p,
-        offsets,
-        numbers,
-        grades,
-        curves,
-        speeds,
-        powers,
-        districts,
-    ) {
-        return asked(2, false);
+    );
+    if first.number != 0 {
+        return first;
     }
     if p.is_finished {
         return asked(3, false);

@@ -1,4 +1,3 @@
 // Calls that make a path, close it and cut it: path_tpc.rs without `extend` and `recalc_speeds`.
 pub mod new; // a path without links
-pub mod rest; // entries past the counts
 pub mod finish; // a path that no call extends any more

@@ -1,6 +1,6 @@
 -- `asked`: yes, and no.
-use Rattle.path_trim.proofs.finish.asked.Statement.{statement}
-use Rattle.path_trim.proofs.finish.asked.Tie as tie
+use Rattle.path.proofs.answer.asked.Statement.{statement}
+use Rattle.path.proofs.answer.asked.Tie as tie
 
 returns : tie.Need-returns
 returns c = rw (c .if1 .taken)

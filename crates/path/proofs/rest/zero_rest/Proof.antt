@@ -1,11 +1,11 @@
 -- `zero_rest`: the seven columns, one after the other.
 use native.Mathlib.Omega.{arith}
 use Rattle.path.specs.Records.{columns}
 use Rattle.path.proofs.Clauses.{bounds}
-use Rattle.path_trim.proofs.PastCounts.{zeroed}
+use Rattle.path.proofs.PastCounts.{zeroed}
 use borrow.Author.Needs.{needs}
-use Rattle.path_trim.proofs.rest.zero_rest.Statement.{statement}
-use Rattle.path_trim.proofs.rest.zero_rest.Tie as tie
+use Rattle.path.proofs.rest.zero_rest.Statement.{statement}
+use Rattle.path.proofs.rest.zero_rest.Tie as tie
 
 zero-from-requires : tie.Need-zero-from-requires
 zero-from-requires c κs = search needs

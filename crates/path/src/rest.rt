@@ -1,9 +1,9 @@
 // Entries past the counts of a path.
-use path::path_tpc::PathTpc;
+use crate::path_tpc::PathTpc;
 ghost use mathlib.Core.Path.{_≡_};
 ghost use mathlib.Core.Bool.{true};
 ghost use Rattle.path.specs.Records.{Columns, columns, pathOf, columnsOf};
 ghost use Rattle.path.specs.Sound.{withinBounds};
 
 // They become zero.
 pub fn zero_rest(

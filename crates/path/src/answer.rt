@@ -1,0 +1,64 @@
+// Answers, and questions 1 and 2 of a path in turn.
+use crate::finite::path_finite;
+use crate::path_tpc::Answer;
+use crate::path_tpc::PathTpc;
+use crate::sound::path_sound;
+ghost use mathlib.Core.Path.{_≡_};
+ghost use Rattle.path.specs.Records.{columns};
+ghost use Rattle.path.specs.Answers.{ask};
+ghost use Rattle.path.specs.Sound.{pathAnswer};
+
+// The answer to a question with place 0.
+pub fn asked(number: u32, yes: bool) -> Answer
+    ensures { λ r. ⌜ r ≡ ask number yes ⌝ }
+{
+    if yes {
+        return Answer {
+            number: 0,
+            place: 0,
+        };
+    }
+    Answer { number, place: 0 }
+}
+
+// Questions 1 and 2 of a path; also is question 1 of the call's other numbers.
+pub fn path_answer(
+    p: PathTpc,
+    also: bool,
+    offsets: &[f64],
+    numbers: &[u32],
+    grades: &[f64],
+    curves: &[f64],
+    speeds: &[f64],
+    powers: &[f64],
+    districts: &[u32],
+) -> Answer
+    ensures { λ r. ⌜ r ≡ pathAnswer also p (columns (now (offsets .entry)) (now (numbers .entry)) (now (grades .entry)) (now (curves .entry)) (now (speeds .entry)) (now (powers .entry)) (now (districts .entry))) ⌝ }
+{
+    if !also {
+        return asked(1, false);
+    }
+    if !path_finite(
+        p,
+        offsets,
+        numbers,
+        grades,
+        curves,
+        speeds,
+        powers,
+        districts,
+    ) {
+        return asked(1, false);
+    }
+    let sound = path_sound(
+        p,
+        offsets,
+        numbers,
+        grades,
+        curves,
+        speeds,
+        powers,
+        districts,
+    );
+    asked(2, sound)
+}
