@@ -3,7 +3,7 @@ use Prim.Native.Nat.{ℕ, zero, suc, _+_, _-_, _*_, _≤_, _<_}
 use native.Mathlib.Nat.{mul-zero, mul-suc, sub-zero, not-suc-le-zero, le-of-suc-le-suc}
 use native.Mathlib.Omega.{arith}
 use mathlib.Core.Path.{_≡_, refl, sym, ap, ap₂, _∙_}
-use mathlib.Core.List.{List, [], _∷_, _++_, append-assoc}
+use mathlib.Core.List.{List, [], _∷_, _++_, map, append-assoc}
 use lib.ListN.{length, take, drop, getD, set, replicate, length-append, length-drop, length-replicate, take-append-drop, replicate-append-replicate}
 use lib.Seq.{slice, sets, sets-eq, drop-append-add, take-append-add, take-at, drop-at, drop-drop, set-split, split-at, take-add, take-length, drop-length, length-take-le}
 use lib.Ieee.{Float}
@@ -278,6 +278,41 @@ module _ {A R : Type 0} (L : Layout A R) (ok : Lawful L) where
       ap (filled z (length c))
       (ap (drop (L .width * j)) (sym (flat-records k c room) ∙ ap (flat L) (sym (take-append-drop j rs)) ∙ flat-append (take j rs) (drop j rs))
       ∙ drop-at (flat L (take j rs)) (flat L (drop j rs)) (L .width * j) front)
+
+  -- what holds the first k records of c and zeros past them holds its own first k records, the same ones
+  module _ (z : A) (k : ℕ) (c : List A) (room : L .width * k ≤ length c) {l : List A} (e : l ≡ filled z (length c) (flat L (records L k c))) where
+    pub held-length : length l ≡ length c
+    held-length = ap length e ∙ length-filled z (length c) (flat L (records L k c)) (omega (arith, length-flat (records L k c), ap (λ (j : ℕ). L .width * j) (length-records k c)))
+
+    pub held-records : records L k l ≡ records L k c
+    unfolding filled
+    held-records =
+        ap (records L k) e
+        ∙ ap (λ (j : ℕ). records L j (filled z (length c) (flat L (records L k c)))) (sym (length-records k c))
+        ∙ records-flat (records L k c) _
+
+    pub held-again : l ≡ filled z (length l) (flat L (records L k l))
+    held-again = e ∙ sym (ap₂ (λ (n : ℕ) (rs : List R). filled z n (flat L rs)) held-length held-records)
+
+-- ---- a column whose records, or entries, another list gives by f, without its first g: the rest becomes zero
+map-drop : {S R : Type 0} (f : S → R) (k : ℕ) (l : List S) → map f (drop k l) ≡ drop k (map f l)
+map-drop f zero l = refl
+map-drop f (suc k) [] = refl
+map-drop f (suc k) (a ∷ l) = map-drop f k l
+
+module _ {A S : Type 0} (z : A) (ss : List S) (g n : ℕ) (c : List A) where
+  pub entries-left : (f : S → A) → map f ss ≡ take n c → moveFront z g n c ≡ filled z (length c) (map f (drop g ss))
+  unfolding moveFront
+  entries-left f e = ap (filled z (length c)) (ap (drop g) (sym e) ∙ sym (map-drop f g ss))
+
+  pub records-left :
+      {R : Type 0} (L : Layout A R) (ok : Lawful L) (f : S → R)
+      → map f ss ≡ records L n c
+      → g ≤ n
+      → L .width * n ≤ length c
+      → moveFront z (L .width * g) (L .width * n) c ≡ filled z (length c) (flat L (map f (drop g ss)))
+  records-left {R = R} L ok f e h room =
+      move-filled L ok z g n c h room ∙ ap (λ (l : List R). filled z (length c) (flat L l)) (ap (drop g) (sym e) ∙ sym (map-drop f g ss))
 
 -- ---- the three layouts
 pub three-lawful : Lawful three

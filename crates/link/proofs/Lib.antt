@@ -3,3 +3,4 @@ pub mod Loops
 pub mod Conditions
 pub mod Formed
 pub mod Judging
+pub mod Known

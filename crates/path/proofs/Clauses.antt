@@ -1,22 +1,20 @@
 -- Question 2 of a path that is read out of its columns, clause by clause.
-use Prim.Native.Nat.{ℕ, _*_, _/_, _≤_, _<_}
+use Prim.Native.Nat.{ℕ, _+_, _*_, _/_, _≤_, _<_}
 use native.Mathlib.Nat.{le-trans, mul-le-mul-left, mul-div-le}
-use mathlib.Core.Path.{_≡_, refl}
-use mathlib.Core.Bool.{Bool, true, false, not, _&&_, _||_, false≢true}
-use lib.Dec.{leb}
-use borrow.Author.Tests.{leb-true}
+use mathlib.Core.Path.{_≡_, sym, _∙_}
+use mathlib.Core.Bool.{Bool, true, false, not, _&&_, _||_}
+use lib.Dec.{eqb, leb}
+use native.Mathlib.Omega.{arith}
+use borrow.Author.Tests.{eqb-true, leb-true}
 use Rattle.speed.specs.Column.{points}
 use Rattle.lookup.specs.Coeff.{coeffs}
+use Rattle.link.proofs.Known.{and-both}
 use Rattle.path.specs.declared.path_tpc.PathTpc.{PathTpc}
 use Rattle.path.specs.declared.link_point.LinkPoint.{LinkPoint}
-use Rattle.path.specs.Records.{Columns, withinAll, linkPoints, pointAt, noLinkPoint, offsetOf, pathOf}
-use Rattle.path.specs.Sound.{oneOfEach, withinBounds, addUp, totals, closes, endCountsZero, offsetsRise, numbersReal, linksSound, sortedFrom, countOf, firstAtOffset, countsAddUp, closedAtInfinity, soundPath, sound}
+use Rattle.path.specs.Records.{Columns, withinAll, linkPoints, pointAt, noLinkPoint, offsetOf, gradeCount, curveCount, powerCount, pathOf}
+use Rattle.path.specs.Sound.{oneOfEach, withinBounds, spare, addUp, totals, closes, endCountsZero, offsetsRise, numbersReal, linksSound, sortedFrom, countOf, firstAtOffset, countsAddUp, closedAtInfinity, soundPath, sound}
 use Rattle.path.proofs.LinkPoints.{link-at}
 use Rattle.path.proofs.ReadBack.{counted, Within}
-
-pub and-both : (a b : Bool) → (a && b) ≡ true → (a ≡ true) × (b ≡ true)
-and-both true b e = (refl, e)
-and-both false b e = absurd (false≢true e)
 
 pub within-all : (n bound a b : ℕ) → withinAll n bound a b ≡ true → (n ≤ bound) × (n ≤ a) × (n ≤ b)
 within-all n bound a b e =
@@ -54,13 +52,13 @@ module _ (p : PathTpc) (c : Columns) where
   unfolding oneOfEach
   some-link e = leb-true 1 (p .«link_count») (and-both _ _ e .0)
 
-  pub some-records : oneOfEach p ≡ true → (0 < p .«grade_count») × (0 < p .«curve_count»)
+  pub some-records : oneOfEach p ≡ true → (0 < p .«grade_count») × (0 < p .«curve_count») × (0 < p .«speed_count»)
   unfolding oneOfEach
   some-records e =
       let l = and-both (leb 1 (p .«link_count»)) _ e in
       let g = and-both (leb 1 (p .«grade_count»)) _ (l .1) in
       let k = and-both (leb 1 (p .«curve_count»)) (leb 1 (p .«speed_count»)) (g .1) in
-      (leb-true 1 (p .«grade_count») (g .0), leb-true 1 (p .«curve_count») (k .0))
+      (leb-true 1 (p .«grade_count») (g .0), leb-true 1 (p .«curve_count») (k .0), leb-true 1 (p .«speed_count») (k .1))
 
   module _ (e : withinBounds p c ≡ true) where
     -- the counts lie within their bounds
@@ -123,3 +121,25 @@ module _ (p : PathTpc) (c : Columns) where
       → (sums && ((not (p .«is_finished») || (g && k)) && ((ended && (rise && real)) && (sorted && (slopes && bends))))) ≡ soundPath (pathOf p c)
   unfolding linksSound
   joined h e₁ e₂ e₃ e₄ e₅ e₆ e₇ e₈ e₉ e₁₀ e₁₁ = cc (clauses h, e₁, e₂, e₃, e₄, e₅, e₆, e₇, e₈, e₉, e₁₀, e₁₁)
+
+-- ---- the counts of the link points
+
+-- q counts no more records than the path has
+abbrev pub Fewer : PathTpc → LinkPoint → Type 0
+Fewer p q = (gradeCount q ≤ p .«grade_count») × (curveCount q ≤ p .«curve_count») × (powerCount q ≤ p .«power_count»)
+
+counts-fewer : (p : PathTpc) (q : LinkPoint) → addUp p q ≡ true → Fewer p q
+unfolding addUp
+counts-fewer p q e =
+    let g = and-both (eqb (gradeCount q + spare (p .«is_finished»)) (p .«grade_count»)) _ e in
+    let k = and-both (eqb (curveCount q + spare (p .«is_finished»)) (p .«curve_count»)) (eqb (powerCount q) (p .«power_count»)) (g .1) in (
+      omega (arith, eqb-true (gradeCount q + spare (p .«is_finished»)) (p .«grade_count») (g .0)),
+      omega (arith, eqb-true (curveCount q + spare (p .«is_finished»)) (p .«curve_count») (k .0)),
+      omega (arith, eqb-true (powerCount q) (p .«power_count») (k .1)),
+    )
+
+pub sound-fewer : (p : PathTpc) (c : Columns) → sound p c ≡ true → Fewer p (totals (linkPoints (p .«link_count») (c .offsets) (c .numbers)))
+sound-fewer p c e =
+    let w = sound-within p c e in
+    let sums = and-both _ _ (sym (clauses p c (some-link p c (w .0))) ∙ sym (sound-more p c (w .0) (w .1)) ∙ e) .0 in
+    counts-fewer p (totals (linkPoints (p .«link_count») (c .offsets) (c .numbers))) sums

@@ -1,10 +1,11 @@
 -- Counts of link points, one point more at a time, and the offsets of the records that they count.
 use Prim.Native.Nat.{ℕ, zero, suc, _+_, _*_, _≤_, _<_, _^_}
+use native.Mathlib.Nat.{le-of-suc-le-suc}
 use native.Mathlib.Omega.{arith}
-use mathlib.Core.Path.{_≡_, ap}
+use mathlib.Core.Path.{_≡_, refl, sym, ap, ap₂, _∙_}
 use mathlib.Core.Bool.{Bool, true, false}
-use mathlib.Core.List.{List}
-use lib.ListN.{getD, List·getD-eq-default}
+use mathlib.Core.List.{List, [], _∷_}
+use lib.ListN.{length, getD, take, List·getD-eq-default}
 use lib.Ieee.{Float}
 use mir.Syntax.{w32, w64}
 use mir.Val.{Fits}
@@ -16,9 +17,10 @@ use Rattle.lookup.specs.declared.path_res_coeff.PathResCoeff.{PathResCoeff}
 use Rattle.lookup.specs.Coeff.{triple, coeffs, noCoeff, standsAt, offsetAt}
 use Rattle.lookup.proofs.Coeffs.{triple-lawful}
 use Rattle.path.specs.declared.link_point.LinkPoint.{LinkPoint}
-use Rattle.path.specs.Records.{offsetOf, gradeCount, curveCount, powerCount, pointAt, linkPoints}
+use Rattle.path.specs.Records.{offsetOf, gradeCount, curveCount, powerCount, pointAt, linkPoints, noLinkPoint, linkPointAt}
 use Rattle.path.specs.Sound.{total, totals, standsThere, countOf, firstAtOffset}
-use Rattle.path.proofs.LinkPoints.{linksFrom, links-all, links-next, links-more, links-none}
+use Rattle.path.proofs.Numbers.{take-links}
+use Rattle.path.proofs.LinkPoints.{length-links, link-at, linksFrom, links-all, links-next, links-more, links-none}
 
 -- ---- the offset of record i of m
 module _ (m : ℕ) (c : List Float) (i : ℕ) where
@@ -79,6 +81,39 @@ sums-small os ns n known room e = (
   omega (arith, ap gradeCount e, total-small gradeCount os ns n (λ i. counts-small os ns known i .0)),
   omega (arith, ap curveCount e, total-small curveCount os ns n (λ i. counts-small os ns known i .1)),
 )
+
+-- ---- the first points
+module _ (count : LinkPoint → ℕ) where
+  pub total-fewer : (k : ℕ) (ps : List LinkPoint) → total count (take k ps) ≤ total count ps
+  unfolding total
+  total-fewer zero ps = omega arith
+  total-fewer (suc k) [] = omega arith
+  total-fewer (suc k) (p ∷ ps) = omega (arith, total-fewer k ps)
+
+  pub total-next : (k : ℕ) (ps : List LinkPoint) → k < length ps → total count (take (suc k) ps) ≡ total count (take k ps) + count (linkPointAt ps k)
+  unfolding total
+  total-next k [] h = absurd (omega arith)
+  total-next zero (p ∷ ps) h = omega arith
+  total-next (suc k) (p ∷ ps) h = omega (arith, total-next k ps (le-of-suc-le-suc h))
+
+  module _ (os : List Float) (ns : List ℕ) where
+    pub links-fewer : (k n : ℕ) → k ≤ n → total count (linkPoints k os ns) ≤ total count (linkPoints n os ns)
+    links-fewer k n h = omega (arith, total-fewer k (linkPoints n os ns), ap (total count) (take-links k n os ns h))
+
+    -- of one point more
+    pub links-one-more : (k : ℕ) → total count (linkPoints (k + 1) os ns) ≡ total count (linkPoints k os ns) + count (pointAt os ns k)
+    links-one-more k =
+        let ps = linkPoints (suc k) os ns in
+        ap (λ (n : ℕ). total count (linkPoints n os ns)) (omega arith)
+        ∙ ap (total count) (sym (take-links (suc k) (suc k) os ns (omega arith)))
+        ∙ total-next k ps (omega (arith, length-links (suc k) os ns))
+        ∙ ap₂ (λ (qs : List LinkPoint) (p : LinkPoint). total count qs + count p) (take-links k (suc k) os ns (omega arith)) (link-at (suc k) os ns k noLinkPoint (omega arith))
+
+-- the counts of either kind, added up
+pub count-of-totals : (curves : Bool) (ps : List LinkPoint) → countOf curves (totals ps) ≡ total (countOf curves) ps
+unfolding totals
+count-of-totals true ps = refl
+count-of-totals false ps = refl
 
 -- ---- each point's first record, record `at` for point i, at its offset
 module _ (count : LinkPoint → ℕ) (gs : List PathResCoeff) (os : List Float) (ns : List ℕ) (n i at : ℕ) where

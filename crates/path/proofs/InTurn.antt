@@ -6,12 +6,14 @@ use mathlib.Core.Bool.{Bool, true, false, _&&_}
 use mathlib.Core.List.{List, [], _∷_}
 use lib.Dec.{eqb}
 use borrow.Author.Tests.{eq-eqb, ne-eqb, eqb-true, eqb-false}
+use Rattle.link.specs.declared.network.Judged.{Judged}
+use Rattle.link.specs.declared.network.Judged.the-variants.{Yes, NoAt}
+use Rattle.link.proofs.Known.{and-both}
 use Rattle.path.specs.declared.path_tpc.Answer.{Answer}
 use Rattle.path.specs.declared.path_tpc.PathTpc.{PathTpc}
 use Rattle.path.specs.Records.{Columns, Path, recordOf, columnsOf}
-use Rattle.path.specs.Answers.{done, ask, inTurn, outcome, left}
+use Rattle.path.specs.Answers.{done, ask, askEach, inTurn, changed, outcome, left}
 use Rattle.path.specs.Sound.{pathFinite, sound, pathAnswer}
-use Rattle.path.proofs.Clauses.{and-both}
 
 -- r is the code's answer to the first question
 module _ (a : Answer) (rest : List Answer) where
@@ -47,6 +49,35 @@ unfolding inTurn
 last-one n true = refl
 last-one n false = first-no n [] refl
 
+pub last-each : (n : ℕ) (j : Judged) → inTurn (askEach (suc n) j ∷ []) ≡ askEach (suc n) j
+unfolding inTurn
+last-each n Yes = refl
+last-each n (NoAt i) = turn-no (askEach (suc n) (NoAt i)) [] refl (λ h. omega arith)
+
+-- an answer with number 0 has place 0
+pub turn-none : (answers : List Answer) → inTurn answers .number ≡ 0 → inTurn answers ≡ done
+unfolding inTurn
+turn-none [] h = refl
+turn-none (a ∷ rest) h =
+    let t = turn-done a rest h in
+    turn-yes a rest refl (t .0) ∙ turn-none rest (t .1)
+
+-- ---- questions without a place
+pub turn-place : (a : Answer) (rest : List Answer) → a .place ≡ 0 → inTurn rest .place ≡ 0 → inTurn (a ∷ rest) .place ≡ 0
+unfolding inTurn
+turn-place a rest e f = go (eqb (a .number) 0) refl
+  where
+    go : (b : Bool) → eqb (a .number) 0 ≡ b → inTurn (a ∷ rest) .place ≡ 0
+    go true t = rw t f
+    go false t = rw t e
+
+pub ask-place : (n : ℕ) (b : Bool) (rest : List Answer) → inTurn rest .place ≡ 0 → inTurn (ask n b ∷ rest) .place ≡ 0
+ask-place n b rest e = turn-place (ask n b) rest (go b) e
+  where
+    go : (b : Bool) → ask n b .place ≡ 0
+    go true = refl
+    go false = refl
+
 -- ---- questions 1 and 2
 module _ (also : Bool) (p : PathTpc) (c : Columns) where
   pub judged-else : also ≡ false → pathAnswer also p c ≡ ask 1 false
@@ -72,12 +103,20 @@ module _ (also : Bool) (p : PathTpc) (c : Columns) where
       let both = and-both (pathFinite p c) also (one .0) in
       (both .1, both .0, first-done 1 [] (sound p c) (one .1) .0)
 
+  pub path-place : pathAnswer also p c .place ≡ 0
+  unfolding pathAnswer inTurn
+  path-place = ask-place 1 (pathFinite p c && also) (ask 2 (sound p c) ∷ []) (ask-place 2 (sound p c) [] refl)
+
 -- ---- what a call leaves
 module _ (a : Answer) (p : PathTpc) (c : Columns) (after : Path) where
   pub outcome-refused : (a .number ≡ 0 → ⊥) → outcome a p c after ≡ left (record { answer = a; path = p }) c
   unfolding outcome
   outcome-refused h = rw (ne-eqb (a .number) 0 h)
 
-  pub outcome-done : a .number ≡ 0 → outcome a p c after ≡ left (record { answer = done; path = recordOf after }) (columnsOf c after)
+  pub outcome-changed : a .number ≡ 0 → outcome a p c after ≡ changed c after
   unfolding outcome
-  outcome-done h = rw (eq-eqb (a .number) 0 h)
+  outcome-changed h = rw (eq-eqb (a .number) 0 h)
+
+  pub outcome-done : a .number ≡ 0 → outcome a p c after ≡ left (record { answer = done; path = recordOf after }) (columnsOf c after)
+  unfolding changed
+  outcome-done h = outcome-changed h

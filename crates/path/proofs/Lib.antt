@@ -3,6 +3,7 @@ pub mod Clauses
 pub mod Counts
 pub mod InTurn
 pub mod LinkPoints
+pub mod Numbers
 pub mod Ordered
 pub mod PastCounts
 pub mod ReadBack

@@ -39,10 +39,12 @@ pub record Outcome : Type 0 where
 abbrev pub left : PathAnswer → Columns → Outcome
 left a c = record { answer = a; columns = c }
 
--- "A refusal hands back every record and column as it came." A call that is done leaves the path `after`.
-unfoldable pub outcome : Answer → PathTpc → Columns → Path → Outcome
+-- what a call that is done leaves: the path `after`, in the columns c
+unfoldable pub changed : Columns → Path → Outcome
 unfolding recordOf columnsOf
-outcome a p c after =
-    cond (isDone a)
-    (left (record { answer = done; path = recordOf after }) (columnsOf c after))
-    (left (record { answer = a; path = p }) c)
+changed c after = left (record { answer = done; path = recordOf after }) (columnsOf c after)
+
+-- "A refusal hands back every record and column as it came."
+unfoldable pub outcome : Answer → PathTpc → Columns → Path → Outcome
+unfolding changed
+outcome a p c after = cond (isDone a) (changed c after) (left (record { answer = a; path = p }) c)

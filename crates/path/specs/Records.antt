@@ -3,7 +3,7 @@ use Prim.Native.Nat.{ℕ, zero, suc, _-_, _/_}
 use mathlib.Core.Bool.{Bool, _&&_}
 use mathlib.Core.List.{List, [], _∷_, map}
 use lib.Dec.{leb}
-use lib.ListN.{length, getD, drop}
+use lib.ListN.{length, getD, take, drop}
 use lib.Ieee.{Float}
 use Rattle.ieee.specs.Number.{+0}
 use Rattle.column.specs.declared.Three.{Three}
@@ -101,6 +101,10 @@ linkPointAt ps k = getD ps k noLinkPoint
 
 abbrev pub endPoint : List LinkPoint → LinkPoint
 endPoint ps = linkPointAt ps (length ps - 1)
+
+-- the link points that begin a link: all but the end point
+abbrev pub beginnings : List LinkPoint → List LinkPoint
+beginnings ps = take (length ps - 1) ps
 
 abbrev pub lastCoeff : List PathResCoeff → PathResCoeff
 lastCoeff gs = getD gs (length gs - 1) noCoeff

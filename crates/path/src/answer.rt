@@ -3,9 +3,10 @@ use crate::finite::path_finite;
 use crate::path_tpc::Answer;
 use crate::path_tpc::PathTpc;
 use crate::sound::path_sound;
+use link::network::Judged;
 ghost use mathlib.Core.Path.{_≡_};
 ghost use Rattle.path.specs.Records.{columns};
-ghost use Rattle.path.specs.Answers.{ask};
+ghost use Rattle.path.specs.Answers.{ask, askEach};
 ghost use Rattle.path.specs.Sound.{pathAnswer};
 
 // The answer to a question with place 0.
@@ -19,6 +20,19 @@ pub fn asked(number: u32, yes: bool) -> Answer
         };
     }
     Answer { number, place: 0 }
+}
+
+// The answer to a question that was put to each position.
+pub fn asked_each(number: u32, judged: Judged) -> Answer
+    ensures { λ r. ⌜ r ≡ askEach number judged ⌝ }
+{
+    match judged {
+        Judged::Yes => Answer {
+            number: 0,
+            place: 0,
+        },
+        Judged::NoAt(place) => Answer { number, place },
+    }
 }
 
 // Questions 1 and 2 of a path; also is question 1 of the call's other numbers.

@@ -3,7 +3,7 @@ use si::Length;
 ghost use mathlib.Core.Path.{_≡_};
 ghost use Prim.Native.Nat.{_≤_};
 ghost use Rattle.path.specs.Records.{linkPoints, pointAt};
-ghost use Rattle.path.specs.Sound.{totals};
+ghost use Rattle.path.specs.Sound.{totals, countOf};
 
 pub struct LinkPoint {
     pub offset: Length,
@@ -50,4 +50,11 @@ pub fn add_counts(offsets: &[f64], numbers: &[u32], n: usize) -> LinkPoint
         cat_power_count: powers,
         link_idx: 0,
     }
+}
+
+// How many grades or curves a link point has.
+pub fn count_of(p: LinkPoint, curves: bool) -> usize
+    ensures { λ r. ⌜ r ≡ countOf curves p ⌝ }
+{
+    if curves { p.curve_count } else { p.grade_count }
 }

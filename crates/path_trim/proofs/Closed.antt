@@ -13,6 +13,7 @@ use Rattle.column.proofs.Bridge.{length-records, push-filled, read-filled}
 use Rattle.lookup.specs.declared.path_res_coeff.PathResCoeff.{PathResCoeff}
 use Rattle.lookup.specs.Coeff.{triple, noCoeff, coeffs}
 use Rattle.lookup.proofs.Coeffs.{triple-lawful}
+use Rattle.link.proofs.Known.{and-both}
 use Rattle.path.specs.declared.path_tpc.PathTpc.{PathTpc}
 use Rattle.path.specs.declared.path_tpc.Answer.{Answer}
 use Rattle.path.specs.Records.{Columns, columns, fitsGrades, fitsCurves, lastCoeff, pathOf, columnsOf, recordOf}
@@ -20,7 +21,7 @@ use Rattle.path.specs.Answers.{ask, done, left}
 use Rattle.path.specs.Sound.{sound, pathAnswer, isOpen}
 use Rattle.path.proofs.ReadBack.{counted}
 use Rattle.path.proofs.InTurn.{turn-no, turn-yes, turn-done, first-no, first-yes, first-done, last-one, judged-done, outcome-refused, outcome-done}
-use Rattle.path.proofs.Clauses.{and-both, within-all, times, sound-within, some-records, bounds}
+use Rattle.path.proofs.Clauses.{within-all, times, sound-within, some-records, bounds}
 use Rattle.path_trim.specs.Finish.{closing, closingAfter, closedRecord, finishedPath, finishAnswer, finishOf}
 
 -- ---- one record more in a column that holds records

@@ -14,7 +14,7 @@ use crate::speed_point::speed_at;
 use si::Length;
 use si::Velocity;
 ghost use mathlib.Core.Path.{_≡_};
-ghost use mathlib.Core.Bool.{true, false};
+ghost use mathlib.Core.Bool.{false};
 ghost use Prim.Native.Nat.{_+_, _-_, _*_, _≤_, _<_};
 ghost use lib.ListN.{length};
 ghost use lib.Ieee as Ieee;
@@ -99,20 +99,26 @@ fn lay_end(col: &mut [f64], n: usize, i: usize, j: usize, e: Length, v: Velocity
     merge_range(col, n, i, j, v)
 }
 
+// The index before i; that of the first point has none, and is 0.
+fn index_before(i: usize) -> usize
+    ensures { λ r. ⌜ r ≡ i - 1 ⌝ }
+{
+    if i == 0 { 0 } else { i - 1 }
+}
+
 // The start of the limit, and then its end.
 fn lay_start(col: &mut [f64], n: usize, i: usize, j: usize, l: SpeedLimit) -> usize
     requires { ⌜ i < n ⌝ }
     requires { ⌜ j < n ⌝ }
     requires { ⌜ 2 * (n + 2) ≤ length (now col) ⌝ }
     requires { ⌜ Holds (now col) (points n (now col)) ⌝ }
-    requires { ⌜ (Ieee.lt (l .«offset_start» .0) (offsetAt (points n (now col)) i) ≡ true → 0 < i) ⌝ }
     ensures { λ r. ⌜ Leaves (now (col .exit)) r (layStart (l .«offset_start» .0) (l .«offset_end» .0) (l .speed .0) i j (points n (now (col .entry)))) ⌝ }
 {
     let s = l.offset_start;
     let e = l.offset_end;
     let v = l.speed;
     if s.0 < offset_at(col, n, i).0 {
-        let u = speed_at(col, n, i - 1);
+        let u = speed_at(col, n, index_before(i));
         let w = min_speed(u, v);
         if u.0 != w.0 {
             insert_point(
@@ -136,7 +142,6 @@ fn lay_limit(col: &mut [f64], n: usize, l: SpeedLimit) -> usize
     requires { ⌜ 0 < n ⌝ }
     requires { ⌜ 2 * (n + 2) ≤ length (now col) ⌝ }
     requires { ⌜ Holds (now col) (points n (now col)) ⌝ }
-    requires { ⌜ Ieee.le (offsetAt (points n (now col)) 0) (l .«offset_start» .0) ≡ true ⌝ }
     requires { ⌜ Ieee.le (offsetAt (points n (now col)) (n - 1)) (l .«offset_start» .0) ≡ false ⌝ }
     ensures { λ r. ⌜ Leaves (now (col .exit)) r (layLimit (l .«offset_start» .0) (l .«offset_end» .0) (l .speed .0) (points n (now (col .entry)))) ⌝ }
 {
@@ -212,7 +217,6 @@ pub fn insert_speed(col: &mut [f64], n: usize, l: SpeedLimit) -> usize
     requires { ⌜ 0 < n ⌝ }
     requires { ⌜ 2 * (n + 2) ≤ length (now col) ⌝ }
     requires { ⌜ Holds (now col) (points n (now col)) ⌝ }
-    requires { ⌜ Ieee.le (offsetAt (points n (now col)) 0) (l .«offset_start» .0) ≡ true ⌝ }
     ensures { λ r. ⌜ Leaves (now (col .exit)) r (insertSpeed (points n (now (col .entry))) (l .«offset_start» .0) (l .«offset_end» .0) (l .speed .0)) ⌝ }
 {
     if offset_at(col, n, n - 1).0 <= l.offset_start.0 {

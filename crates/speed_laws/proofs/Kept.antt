@@ -45,10 +45,11 @@ repeats-after i w ps k = ltb→lt 0 i (and-l (ltb 0 i) (Ieee.eq (speedAt ps (i -
 
 -- ---- step by step
 
-module _ (o s e v : Float) where
-  -- at most n points, and they begin at o if that is at or before the limit's start
+module _ (m : ℕ) (o s e v : Float) where
+  -- at most n points, one where there was one of m, and they begin at o if that is at or before the limit's start
   record Kept (n : ℕ) (ps : List Point) : Type 0 where
     count : length ps ≤ n
+    least : 0 < m → 0 < length ps
     begins : T (Ieee.le o s) → offsetAt ps 0 ≡ o
 
   module _ {n : ℕ} {ps : List Point} (k : Kept n ps) where
@@ -59,27 +60,28 @@ module _ (o s e v : Float) where
     some h = first-some ps s (after h)
 
     more : {m : ℕ} → n ≤ m → Kept m ps
-    more h = let c = k .count in record { count = omega arith; begins = k .begins }
+    more h = let c = k .count in record { count = omega arith; least = k .least; begins = k .begins }
 
     kept-in : (i : ℕ) (p : Point) → (T (Ieee.le o s) → 0 < i) → Kept (n + 1) (insertAt i p ps)
-    kept-in i p z = let c = k .count in record { count = omega (arith, length-inserted i p ps); begins = λ h. first-taken i ps (p ∷ drop i ps) (some h) (z h) ∙ k .begins h }
+    kept-in i p z = let c = k .count in record { count = omega (arith, length-inserted i p ps); least = λ z. omega (arith, length-inserted i p ps); begins = λ h. first-taken i ps (p ∷ drop i ps) (some h) (z h) ∙ k .begins h }
 
     kept-out : (i : ℕ) → 0 < i → Kept n (removeAt i ps)
     kept-out i z =
         let c = k .count in
         record {
           count = omega (arith, length-append (take i ps) (drop (suc i) ps), length-take i ps, length-drop (suc i) ps);
+          least = λ y. omega (arith, k .least y, length-append (take i ps) (drop (suc i) ps), length-take i ps, length-drop (suc i) ps);
           begins = λ h. first-taken i ps (drop (suc i) ps) (some h) z ∙ k .begins h;
         }
 
     kept-speed : (i : ℕ) (w : Float) → Kept n (setSpeed i w ps)
-    kept-speed i w = let c = k .count in record { count = omega (arith, length-set ps i (point (offsetAt ps i) w)); begins = λ h. first-stored i w ps ∙ k .begins h }
+    kept-speed i w = let c = k .count in record { count = omega (arith, length-set ps i (point (offsetAt ps i) w)); least = λ z. omega (arith, k .least z, length-set ps i (point (offsetAt ps i) w)); begins = λ h. first-stored i w ps ∙ k .begins h }
 
     kept-offset : (i : ℕ) (x : Float) → 0 < i → Kept n (setOffset i x ps)
-    kept-offset i x z = let c = k .count in record { count = omega (arith, length-set ps i (point x (speedAt ps i))); begins = λ h. first-moved i x ps z ∙ k .begins h }
+    kept-offset i x z = let c = k .count in record { count = omega (arith, length-set ps i (point x (speedAt ps i))); least = λ y. omega (arith, k .least y, length-set ps i (point x (speedAt ps i))); begins = λ h. first-moved i x ps z ∙ k .begins h }
 
     kept-append : (qs : List Point) → Kept (n + length qs) (ps ++ qs)
-    kept-append qs = let c = k .count in record { count = omega (arith, length-append ps qs); begins = λ h. first-appended ps qs (some h) ∙ k .begins h }
+    kept-append qs = let c = k .count in record { count = omega (arith, length-append ps qs); least = λ z. omega (arith, k .least z, length-append ps qs); begins = λ h. first-appended ps qs (some h) ∙ k .begins h }
 
   kept-merge : (k i n : ℕ) (ps : List Point) → Kept n ps → Kept n (merge v k i ps)
   unfolding merge dropRepeat
@@ -155,17 +157,17 @@ module _ (o s e v : Float) where
 -- ---- the laws
 
 module _ (ps : List Point) (s e v : Float) where
-  kept : Kept (offsetAt ps 0) s e v (length ps + 2) (insertSpeed ps s e v)
-  kept = kept-insert (offsetAt ps 0) s e v (length ps) ps (record { count = omega arith; begins = λ h. refl })
+  kept : Kept (length ps) (offsetAt ps 0) s e v (length ps + 2) (insertSpeed ps s e v)
+  kept = kept-insert (length ps) (offsetAt ps 0) s e v (length ps) ps (record { count = omega arith; least = λ h. h; begins = λ h. refl })
 
   -- At most two points come in.
   pub count-insert : length (insertSpeed ps s e v) ≤ length ps + 2
   count-insert = kept .count
 
+  -- There is a point then.
+  pub insert-some : 0 < length ps → 0 < length (insertSpeed ps s e v)
+  insert-some = kept .least
+
   -- The first offset stays, to the bit, if it is at or before the limit's start.
   pub insert-begins : T (Ieee.le (offsetAt ps 0) s) → offsetAt (insertSpeed ps s e v) 0 ≡ offsetAt ps 0
   insert-begins = kept .begins
-
-  -- There is a point then.
-  pub insert-some : T (Ieee.le (offsetAt ps 0) s) → 0 < length (insertSpeed ps s e v)
-  insert-some = some (offsetAt ps 0) s e v kept

@@ -32,7 +32,7 @@ returns c =
     (sym (insert-append s e v ps (a .n) (length-points (a .n) (a .col .now)) (cc)))
 
 lay-limit-requires : tie.Need-lay-limit-requires
-lay-limit-requires c κs = (c .before .before .before .before .before .before .before .pre .0, (c .before .before .before .before .before .before .before .pre .1 .0, (c .before .before .before .before .before .before .before .pre .1 .1 .0, (c .before .before .before .before .before .before .before .pre .1 .1 .1, (cc)))))
+lay-limit-requires c κs = (c .before .before .before .before .before .before .before .pre .0, (c .before .before .before .before .before .before .before .pre .1 .0, (c .before .before .before .before .before .before .before .pre .1 .1, (cc))))
 
 same-length-2 : tie.Need-same-length-2
 same-length-2 c = search needs

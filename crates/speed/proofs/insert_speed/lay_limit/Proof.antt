@@ -11,7 +11,7 @@ use Rattle.speed.specs.Points.{offsetAt}
 use Rattle.speed.specs.Column.{points}
 use Rattle.speed.specs.Insert.{layStart, layLimit}
 use Rattle.speed.proofs.Held.{length-points, leaves-at}
-use Rattle.speed.proofs.Steps.{first-below, last-le, start-after, limit-laid}
+use Rattle.speed.proofs.Steps.{first-below, last-le, limit-laid}
 use borrow.Author.Needs.{needs}
 use Rattle.speed.proofs.insert_speed.lay_limit.Statement.{statement}
 use Rattle.speed.proofs.insert_speed.lay_limit.Tie as tie
@@ -31,10 +31,10 @@ lay-start-requires c κs =
     let v = a .l .speed .0 in
     let n = length-points (a .n) (a .col .now) in
     let o = offsetAt ps (a .n - 1) in
-    let before : Ieee.lt o s ≡ false = bool-ext (Ieee.lt o s) false (λ t. subst T (c .before .before .before .before .before .before .pre .1 .1 .1 .1) (lt→le o s t)) (λ t. absurd t) in
+    let before : Ieee.lt o s ≡ false = bool-ext (Ieee.lt o s) false (λ t. subst T (c .before .before .before .before .before .before .pre .1 .1 .1) (lt→le o s t)) (λ t. absurd t) in
     let last : Ieee.lt (offsetAt ps (length ps - 1)) s ≡ false = rw n before in (
       omega (arith, first-below s ps (omega arith) last, c .before .before .before .first-from .ensures),
-      (omega (arith, last-le e (a .n - 1) ps, c .before .last-from .ensures), (c .before .before .before .before .before .before .pre .1 .0, (c .before .before .before .before .before .before .pre .1 .1 .0, start-after s ps (c .before .before .before .first-from .result) (c .before .before .before .before .before .before .pre .1 .1 .1 .0)))),
+      (omega (arith, last-le e (a .n - 1) ps, c .before .last-from .ensures), (c .before .before .before .before .before .before .pre .1 .0, c .before .before .before .before .before .before .pre .1 .1 .0)),
     )
 
 same-length : tie.Need-same-length

@@ -17,17 +17,17 @@ use Rattle.speed.proofs.insert_speed.lay_start.Tie as tie
 offset-at-requires : tie.Need-offset-at-requires
 offset-at-requires c κs = search needs
 
-sub-speed-at : tie.Need-sub-speed-at
-sub-speed-at c = c .before .before .before .before .before .before .before .before .before .before .pre .1 .1 .1 .1 (cc)
+index-before-requires : tie.Need-index-before-requires
+index-before-requires c κs = search needs
 
 speed-at-requires : tie.Need-speed-at-requires
-speed-at-requires c κs = search needs
+speed-at-requires c κs = (omega (arith, c .index-before .ensures), omega arith)
 
 min-speed-requires : tie.Need-min-speed-requires
 min-speed-requires c κs = search needs
 
 insert-point-requires : tie.Need-insert-point-requires
-insert-point-requires c κs = (omega arith, (omega arith, c .before .before .before .before .before .before .before .before .before .before .before .before .before .before .before .before .pre .1 .1 .1 .0))
+insert-point-requires c κs = (omega arith, (omega arith, c .before .before .before .before .before .before .before .before .before .before .before .before .before .before .before .before .before .pre .1 .1 .1))
 
 add-lay-end : tie.Need-add-lay-end
 add-lay-end c = search needs
@@ -40,7 +40,7 @@ add-lay-end-3 c = search needs
 
 lay-end-requires : tie.Need-lay-end-requires
 lay-end-requires c κs =
-    let a = c .before .before .before .before .before .before .before .before .before .before .before .before .before .before .before .before .before .before .before .before .args in
+    let a = c .before .before .before .before .before .before .before .before .before .before .before .before .before .before .before .before .before .before .before .before .before .args in
     let next = next-inserted (a .col .now) (c .before .before .before .insert-point .last .0) (a .n) (a .i) (point (a .l .«offset_start» .0) (c .before .before .before .before .before .before .before .before .min-speed .result .0)) (c .before .before .before .insert-point .ensures) in
     (omega arith, (omega arith, (omega (arith, c .before .before .before .insert-point .kept .0), next .1)))
 
@@ -49,7 +49,7 @@ same-length c = search needs
 
 returns : tie.Need-returns
 returns c =
-    let a = c .before .before .before .before .before .before .before .before .before .before .before .before .before .before .before .before .before .before .before .before .before .before .before .args in
+    let a = c .before .before .before .before .before .before .before .before .before .before .before .before .before .before .before .before .before .before .before .before .before .before .before .before .args in
     let ps = points (a .n) (a .col .now) in
     let s = a .l .«offset_start» .0 in
     let e = a .l .«offset_end» .0 in
@@ -64,14 +64,14 @@ returns c =
     ∙ sym (start-laid s e v (a .i) (a .j) ps (cc) (cc)))
 
 lay-end-requires-2 : tie.Need-lay-end-requires-2
-lay-end-requires-2 c κs = (omega arith, (omega arith, (omega arith, c .before .before .before .before .before .before .before .before .before .before .before .before .before .before .before .before .pre .1 .1 .1 .0)))
+lay-end-requires-2 c κs = (omega arith, (omega arith, (omega arith, c .before .before .before .before .before .before .before .before .before .before .before .before .before .before .before .before .before .pre .1 .1 .1)))
 
 same-length-2 : tie.Need-same-length-2
 same-length-2 c = search needs
 
 returns-2 : tie.Need-returns-2
 returns-2 c =
-    let a = c .before .before .before .before .before .before .before .before .before .before .before .before .before .before .before .before .before .before .before .args in
+    let a = c .before .before .before .before .before .before .before .before .before .before .before .before .before .before .before .before .before .before .before .before .args in
     let ps = points (a .n) (a .col .now) in
     let s = a .l .«offset_start» .0 in
     let e = a .l .«offset_end» .0 in
@@ -81,7 +81,7 @@ returns-2 c =
     (sym (start-same s e v (a .i) (a .j) ps (cc) (cc)))
 
 lay-end-requires-3 : tie.Need-lay-end-requires-3
-lay-end-requires-3 c κs = (omega arith, (omega arith, (omega arith, c .before .before .before .before .before .before .before .before .before .before .pre .1 .1 .1 .0)))
+lay-end-requires-3 c κs = (omega arith, (omega arith, (omega arith, c .before .before .before .before .before .before .before .before .before .before .pre .1 .1 .1)))
 
 same-length-3 : tie.Need-same-length-3
 same-length-3 c = search needs
@@ -102,7 +102,7 @@ lay-start-spec =
     tie.close
     (tie.spec
     offset-at-requires
-    sub-speed-at
+    index-before-requires
     speed-at-requires
     min-speed-requires
     insert-point-requires

@@ -1,0 +1,4 @@
+-- Laws of the definitions.
+pub mod Fours
+pub mod Renumbered
+pub mod LinkParts
