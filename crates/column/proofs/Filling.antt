@@ -5,9 +5,9 @@ use native.Mathlib.Nat.{not-suc-le-zero, le-of-suc-le-suc}
 use native.Mathlib.Omega.{arith}
 use mathlib.Core.Path.{_≡_, refl, sym, ap, _∙_}
 use mathlib.Core.Logic.{inl, inr}
-use mathlib.Core.List.{List, [], _∷_, _++_, append-nil, append-assoc}
+use mathlib.Core.List.{List, [], _∷_, _++_, append-nil, append-assoc, map}
 use lib.ListN.{length, take, drop, getD, set, replicate, length-append, length-set, length-take, length-replicate, drop-of-length-le, take-append-drop}
-use lib.Seq.{slice, take-suc-set, take-all, take-length, take-set-lt, drop-set-lt, drop-cons, getD-take}
+use lib.Seq.{slice, take-suc-set, take-all, take-length, take-set-lt, drop-set-lt, drop-cons, getD-take, set-append-seam}
 use Rattle.ieee.proofs.Round.{split}
 use Rattle.column.specs.Entries.{filled, zeroFrom, moveFront, zeroRange}
 
@@ -114,3 +114,21 @@ module _ {A : Type 0} (z : A) where
   move-done l l₀ i j from to e h k p =
       let q : slice from to l₀ ≡ take i l = sym p ∙ rw (move-none l j to k) (append-nil (take i l)) in
       rw (q, e)
+
+-- one entry behind those of a filled list
+pub push-entry : {A : Type 0} (z : A) (n : ℕ) (es : List A) (x : A) → length es < n → set (filled z n es) (length es) x ≡ filled z n (es ++ x ∷ [])
+unfolding filled
+push-entry z n es x h =
+    let k = n - suc (length es) in
+    let e : n - length es ≡ suc k = omega arith in
+    let f : k ≡ n - length (es ++ x ∷ []) = omega (arith, length-append es (x ∷ [])) in
+    ap (λ (j : ℕ). set (es ++ replicate j z) (length es) x) e
+    ∙ set-append-seam es z (replicate k z) x
+    ∙ sym (append-assoc es (x ∷ []) (replicate k z))
+    ∙ ap (λ (j : ℕ). (es ++ x ∷ []) ++ replicate j z) f
+
+-- one element replaced, and every one mapped
+pub set-map : {A B : Type 0} (f : A → B) (l : List A) (i : ℕ) (y : A) → set (map f l) i (f y) ≡ map f (set l i y)
+set-map f [] i y = refl
+set-map f (x ∷ l) zero y = refl
+set-map f (x ∷ l) (suc i) y = ap (λ (r : List _). f x ∷ r) (set-map f l i y)

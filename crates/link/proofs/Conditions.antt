@@ -4,8 +4,8 @@ use native.Mathlib.Nat.{le-div-iff-mul-le, mul-pos}
 use native.Mathlib.Numerals.{add-one}
 use native.Mathlib.Omega.{arith}
 use mathlib.Core.Path.{_≡_, refl, sym, _∙_}
-use mathlib.Core.Bool.{Bool, true, false, _&&_, cond}
-use lib.Dec.{T, eqb, leb, leb→le, le→leb}
+use mathlib.Core.Bool.{Bool, true, false, _&&_}
+use lib.Dec.{T, leb, leb→le, le→leb}
 use lib.IntN.{pos}
 use lib.Ieee as Ieee
 use lib.Ieee.{Float, nan, inf, fin, up, down}

@@ -1,10 +1,11 @@
 -- What is known of a link that question 6 has passed, and of a set that question 7 has found.
-use Prim.Native.Nat.{ℕ, zero, suc, _+_, _≤_, _<_}
+use Prim.Native.Nat.{ℕ, zero, suc, _+_, _≤_, _<_, _-_}
 use native.Mathlib.Nat.{not-suc-le-zero, le-of-suc-le-suc}
 use native.Mathlib.Omega.{arith}
 use mathlib.Core.Path.{_≡_, refl, sym, ap, _∙_}
 use mathlib.Core.Bool.{Bool, true, false, not, _&&_, _||_, cond, false≢true}
-use mathlib.Core.List.{List}
+use mathlib.Core.List.{List, [], _∷_, map}
+use lib.ListN.{length, getD}
 use lib.Dec.{eqb, leb}
 use lib.Ieee as Ieee
 use lib.Ieee.{Float}
@@ -15,12 +16,15 @@ use Rattle.link.specs.declared.train_params.TrainType.{TrainType}
 use Rattle.link.specs.declared.speed_set.SpeedSet.{SpeedSet}
 use Rattle.link.specs.declared.speed_set.SetFound.{SetFound}
 use Rattle.link.specs.declared.speed_set.SetFound.the-variants.{Found, Missing}
-use Rattle.link.specs.Lists.{every, upFrom}
+use Rattle.link.specs.declared.network.Judged.{Judged}
+use Rattle.link.specs.declared.network.Judged.the-variants.{Yes, NoAt}
+use Rattle.link.specs.Lists.{every, upFrom, firstNo, firstNoFrom}
 use Rattle.link.specs.Train.{typeNumber}
 use Rattle.link.specs.Condition.{conditionFormed}
 use Rattle.link.specs.Table.{LinkTable, linkAt, inside, isPresent, conditionsOf, limitsOf, setAt, setFor}
-use Rattle.link.specs.Questions.{samplesFormed, limitFormed, powerFormed, knownFlag, presentFormed, setFormed, inPools, wellFormed}
+use Rattle.link.specs.Questions.{samplesFormed, limitFormed, powerFormed, knownFlag, presentFormed, setFormed, inPools, wellFormed, numberAt, numbers, question6}
 use Rattle.link.proofs.Formed.{type-below}
+use Rattle.link.proofs.Loops.{range-more}
 
 pub and-both : (a b : Bool) → (a && b) ≡ true → (a ≡ true) × (b ≡ true)
 and-both true b e = (refl, e)
@@ -36,6 +40,54 @@ every-at at ok start (suc n) zero h e =
 every-at at ok start (suc n) (suc k) h e =
     let z : suc start + k ≡ start + suc k = omega arith in
     ap (λ (i : ℕ). ok (at i)) (sym z) ∙ every-at at ok (suc start) n k (le-of-suc-le-suc h) (and-both (ok (at start)) _ e .1)
+
+no-yes : (i : ℕ) → NoAt i ≡ Yes → ⊥
+no-yes i e = false≢true (ap is-yes e)
+  where
+    is-yes : Judged → Bool
+    is-yes Yes = true
+    is-yes (NoAt k) = false
+
+module _ {A : Type 0} where
+  -- one element of a list whose elements all pass
+  pub every-in : (ok : A → Bool) (l : List A) (k : ℕ) (d : A) → k < length l → every ok l ≡ true → ok (getD l k d) ≡ true
+  unfolding every
+  every-in ok [] k d h e = absurd (not-suc-le-zero h)
+  every-in ok (x ∷ xs) zero d h e = and-both (ok x) _ e .0
+  every-in ok (x ∷ xs) (suc k) d h e = every-in ok xs k d (le-of-suc-le-suc h) (and-both (ok x) _ e .1)
+
+-- a question that no position fails passes every one
+no-from : {A : Type 0} (ok : A → Bool) (i : ℕ) (xs : List A) → firstNoFrom i (map ok xs) ≡ Yes → every ok xs ≡ true
+unfolding every firstNoFrom
+no-from ok i [] e = refl
+no-from ok i (x ∷ xs) e = go (ok x) refl (no-from ok (suc i) xs)
+  where
+    go : (b : Bool) → ok x ≡ b → (firstNoFrom (suc i) (map ok xs) ≡ Yes → every ok xs ≡ true) → every ok (x ∷ xs) ≡ true
+    go true t rest = rw t (rest (rw t at e))
+    go false t rest = absurd (no-yes i (rw t at e))
+
+pub none-fails : {A : Type 0} (ok : A → Bool) (xs : List A) → firstNo (map ok xs) ≡ Yes → every ok xs ≡ true
+none-fails ok xs e = no-from ok 0 xs e
+
+pub all-formed : (t : LinkTable) (ns : List ℕ) → question6 t ns ≡ Yes → every (wellFormed t) ns ≡ true
+unfolding question6
+all-formed t ns e = none-fails (wellFormed t) ns e
+
+-- the entries of a plain list are the list
+range-shift : {A : Type 0} (at : ℕ → A) (start n : ℕ) → upFrom at (suc start) n ≡ upFrom (λ i. at (suc i)) start n
+unfolding upFrom
+range-shift at start zero = refl
+range-shift {A = A} at start (suc n) = ap (λ (l : List A). at (suc start) ∷ l) (range-shift at (suc start) n)
+
+pub numbers-plain : (l : List ℕ) → numbers false l (length l) ≡ l
+unfolding upFrom
+numbers-plain [] = refl
+numbers-plain (x ∷ l) = ap (λ (r : List ℕ). x ∷ r) (range-shift (numberAt false (x ∷ l)) 0 (length l) ∙ numbers-plain l)
+
+-- where each element passes, the first does, and each of the rest
+pub every-next : {A : Type 0} (at : ℕ → A) (ok : A → Bool) (i end : ℕ) → i < end → every ok (upFrom at i (end - i)) ≡ true → (ok (at i) ≡ true) × (every ok (upFrom at (i + 1) (end - (i + 1))) ≡ true)
+unfolding every
+every-next at ok i end h e = and-both (ok (at i)) _ (sym (ap (every ok) (range-more at i end h)) ∙ e)
 
 -- ---- a link
 pub record Formed (t : LinkTable) (n : ℕ) : Type 0 where
@@ -99,7 +151,6 @@ found set type s e = pick (isPresent (set 0)) refl (isPresent (set (suc (typeNum
         let w = same (set (suc (typeNumber type))) s z in
         (ap isPresent w ∙ y, (suc (typeNumber type), omega (arith, type-below type), w))
     pick false x false y z = absurd (none z)
-
 
 module _ (codes : List ℕ) (values limits : List Float) (s : SpeedSet) where
   present-formed : isPresent s ≡ true → setFormed codes values limits s ≡ true → presentFormed codes values limits s ≡ true

@@ -3,11 +3,10 @@ use Prim.Native.Nat.{ℕ, zero, suc, _+_, _-_, _≤_, _<_}
 use native.Mathlib.Nat.{not-suc-le-zero, le-of-suc-le-suc}
 use native.Mathlib.Numerals.{add-one}
 use native.Mathlib.Omega.{arith}
-use mathlib.Core.Path.{_≡_, refl, sym, ap, _∙_}
+use mathlib.Core.Path.{_≡_, refl, sym, ap, _∙_, ap₂}
 use mathlib.Core.Bool.{Bool, true, false}
-use mathlib.Core.List.{List, [], _∷_, map}
-use lib.ListN.{length, getD}
-use Rattle.link.specs.declared.network.Judged.{Judged}
+use mathlib.Core.List.{List, [], _∷_, map, _++_}
+use lib.ListN.{length, getD, take, drop}
 use Rattle.link.specs.declared.network.Judged.the-variants.{Yes, NoAt}
 use Rattle.link.specs.Lists.{every, upFrom, firstNoFrom}
 
@@ -69,3 +68,39 @@ module _ {A : Type 0} (at : ℕ → A) where
     pub first-end : end ≤ i → firstNoFrom i (map ok (upFrom at i (end - i))) ≡ Yes
     unfolding firstNoFrom
     first-end h = rw (range-none i end h)
+
+-- ---- parts of a range
+module _ {A : Type 0} (at : ℕ → A) where
+  pub take-range : (k n start : ℕ) → k ≤ n → take k (upFrom at start n) ≡ upFrom at start k
+  unfolding upFrom
+  take-range zero n start h = refl
+  take-range (suc k) zero start h = absurd (not-suc-le-zero h)
+  take-range (suc k) (suc n) start h = ap (λ (l : List A). at start ∷ l) (take-range k n (suc start) (le-of-suc-le-suc h))
+
+  pub drop-range : (s n start : ℕ) → s ≤ n → drop s (upFrom at start n) ≡ upFrom at (start + s) (n - s)
+  unfolding upFrom
+  drop-range zero n start h =
+      let a : start ≡ start + 0 = omega arith in
+      let b : n ≡ n - 0 = omega arith in
+      ap₂ (upFrom at) a b
+  drop-range (suc s) zero start h = absurd (not-suc-le-zero h)
+  drop-range (suc s) (suc n) start h =
+      let a : suc start + s ≡ start + suc s = omega arith in
+      let b : n - s ≡ suc n - suc s = omega arith in
+      drop-range s n (suc start) (le-of-suc-le-suc h) ∙ ap₂ (upFrom at) a b
+
+-- a range by its last element
+pub range-last : {A : Type 0} (at : ℕ → A) (first k : ℕ) → upFrom at first (suc k) ≡ upFrom at first k ++ at (first + k) ∷ []
+unfolding upFrom
+range-last at first zero = ap (λ (i : ℕ). at i ∷ []) (omega arith)
+range-last at first (suc k) = ap (_∷_ (at first)) (range-last at (suc first) k ∙ ap (λ (i : ℕ). upFrom at (suc first) k ++ at i ∷ []) (omega arith))
+
+-- each element changed
+pub map-range : {A B : Type 0} (f : A → B) (at : ℕ → A) (start n : ℕ) → map f (upFrom at start n) ≡ upFrom (λ k. f (at k)) start n
+unfolding upFrom
+map-range f at start zero = refl
+map-range f at start (suc n) = ap (λ l. f (at start) ∷ l) (map-range f at (suc start) n)
+
+-- the range from i on, where p is element i
+pub range-next : {A : Type 0} (at : ℕ → A) (i end : ℕ) → i < end → (p : A) → p ≡ at i → upFrom at i (end - i) ≡ p ∷ upFrom at (i + 1) (end - (i + 1))
+range-next at i end h p e = range-more at i end h ∙ ap (λ x. x ∷ upFrom at (i + 1) (end - (i + 1))) (sym e)

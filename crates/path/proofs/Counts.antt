@@ -1,5 +1,5 @@
 -- Counts of link points, one point more at a time, and the offsets of the records that they count.
-use Prim.Native.Nat.{ℕ, zero, suc, _+_, _*_, _≤_, _<_, _^_}
+use Prim.Native.Nat.{ℕ, zero, suc, _+_, _*_, _≤_, _<_, _^_, _-_}
 use native.Mathlib.Nat.{le-of-suc-le-suc}
 use native.Mathlib.Omega.{arith}
 use mathlib.Core.Path.{_≡_, refl, sym, ap, ap₂, _∙_}
@@ -17,10 +17,12 @@ use Rattle.lookup.specs.declared.path_res_coeff.PathResCoeff.{PathResCoeff}
 use Rattle.lookup.specs.Coeff.{triple, coeffs, noCoeff, standsAt, offsetAt}
 use Rattle.lookup.proofs.Coeffs.{triple-lawful}
 use Rattle.path.specs.declared.link_point.LinkPoint.{LinkPoint}
-use Rattle.path.specs.Records.{offsetOf, gradeCount, curveCount, powerCount, pointAt, linkPoints, noLinkPoint, linkPointAt}
+use Rattle.path.specs.Records.{offsetOf, gradeCount, curveCount, powerCount, pointAt, linkPoints, noLinkPoint, linkPointAt, lastCoeff}
 use Rattle.path.specs.Sound.{total, totals, standsThere, countOf, firstAtOffset}
 use Rattle.path.proofs.Numbers.{take-links}
 use Rattle.path.proofs.LinkPoints.{length-links, link-at, linksFrom, links-all, links-next, links-more, links-none}
+use Rattle.link.specs.Lists.{upFrom}
+use Rattle.link.proofs.Loops.{range-more, range-none}
 
 -- ---- the offset of record i of m
 module _ (m : ℕ) (c : List Float) (i : ℕ) where
@@ -31,6 +33,12 @@ module _ (m : ℕ) (c : List Float) (i : ℕ) where
   -- past the end
   pub offset-past : m ≤ i → offsetAt (coeffs m c) i ≡ +0
   offset-past h = ap standsAt (List·getD-eq-default (coeffs m c) noCoeff (omega (arith, length-records triple triple-lawful m c)))
+
+-- the last record
+pub last-record : (m : ℕ) (col : List Float) → 0 < m → lastCoeff (coeffs m col) ≡ recordAt triple col (m - 1)
+last-record m col h =
+    ap (λ (k : ℕ). getD (coeffs m col) (k - 1) noCoeff) (length-records triple triple-lawful m col)
+    ∙ record-at triple triple-lawful m col (m - 1) noCoeff (omega arith)
 
 module _ (os : List Float) (ns : List ℕ) where
   -- ---- each count is an entry of a column of u32
@@ -81,6 +89,22 @@ sums-small os ns n known room e = (
   omega (arith, ap gradeCount e, total-small gradeCount os ns n (λ i. counts-small os ns known i .0)),
   omega (arith, ap curveCount e, total-small curveCount os ns n (λ i. counts-small os ns known i .1)),
 )
+
+-- ---- the sum of a count over a range
+module _ (count : LinkPoint → ℕ) (at : ℕ → LinkPoint) (i end : ℕ) where
+  pub range-total : i < end → total count (upFrom at i (end - i)) ≡ count (at i) + total count (upFrom at (i + 1) (end - (i + 1)))
+  unfolding total
+  range-total h = ap (total count) (range-more at i end h)
+
+  pub range-total-end : end ≤ i → total count (upFrom at i (end - i)) ≡ 0
+  unfolding total
+  range-total-end h = ap (total count) (range-none at i end h)
+
+-- ---- the sum of figures that fit in a u32
+pub total-bound : (count : LinkPoint → ℕ) (ps : List LinkPoint) → ((p : LinkPoint) → count p < 2 ^ 32) → total count ps ≤ length ps * 2 ^ 32
+unfolding total
+total-bound count [] h = omega arith
+total-bound count (p ∷ ps) h = omega (arith, h p, total-bound count ps h)
 
 -- ---- the first points
 module _ (count : LinkPoint → ℕ) where

@@ -8,11 +8,14 @@ use lib.Dec.{eqb}
 use borrow.Author.Tests.{eq-eqb, ne-eqb, eqb-true, eqb-false}
 use Rattle.link.specs.declared.network.Judged.{Judged}
 use Rattle.link.specs.declared.network.Judged.the-variants.{Yes, NoAt}
+use Rattle.link.specs.declared.train_params.TrainType.{TrainType}
+use Rattle.link.specs.Table.{LinkTable}
+use Rattle.link.specs.Questions.{question4, question6, question7}
 use Rattle.link.proofs.Known.{and-both}
 use Rattle.path.specs.declared.path_tpc.Answer.{Answer}
 use Rattle.path.specs.declared.path_tpc.PathTpc.{PathTpc}
 use Rattle.path.specs.Records.{Columns, Path, recordOf, columnsOf}
-use Rattle.path.specs.Answers.{done, ask, askEach, inTurn, changed, outcome, left}
+use Rattle.path.specs.Answers.{done, ask, askEach, inTurn, linksAnswer, changed, outcome, left}
 use Rattle.path.specs.Sound.{pathFinite, sound, pathAnswer}
 
 -- r is the code's answer to the first question
@@ -61,6 +64,65 @@ turn-none [] h = refl
 turn-none (a ∷ rest) h =
     let t = turn-done a rest h in
     turn-yes a rest refl (t .0) ∙ turn-none rest (t .1)
+
+pub each-done : (n : ℕ) (j : Judged) → askEach (suc n) j .number ≡ 0 → j ≡ Yes
+each-done n Yes h = refl
+each-done n (NoAt i) h = absurd (omega arith)
+
+-- the last question is itself several in turn
+pub turn-last : (answers : List Answer) → inTurn (inTurn answers ∷ []) ≡ inTurn answers
+unfolding inTurn
+turn-last answers = go (eqb (inTurn answers .number) 0) refl
+  where
+    go : (b : Bool) → eqb (inTurn answers .number) 0 ≡ b → inTurn (inTurn answers ∷ []) ≡ inTurn answers
+    go true e = let z = eqb-true (inTurn answers .number) 0 e in turn-yes (inTurn answers) [] refl z ∙ sym (turn-none answers z)
+    go false e = turn-no (inTurn answers) [] refl (eqb-false (inTurn answers .number) 0 e)
+
+-- ---- questions 4 to 7
+module _ (t : LinkTable) (type : TrainType) (fifth : Judged) (ns : List ℕ) where
+  abbrev after6 : List Answer
+  after6 = askEach 7 (question7 (t .sets) type ns) ∷ []
+
+  abbrev after5 : List Answer
+  after5 = askEach 6 (question6 t ns) ∷ after6
+
+  abbrev after4 : List Answer
+  after4 = askEach 5 fifth ∷ after5
+
+  abbrev first4 : Answer
+  first4 = askEach 4 (question4 (t .links) (t .lengths) (t .sets) ns)
+
+  -- r4 to r6 are the code's answers to questions 4 to 6
+  module _ {r4 : Answer} (e4 : r4 ≡ first4) where
+    pub links-4 : (r4 .number ≡ 0 → ⊥) → r4 ≡ linksAnswer t type fifth ns
+    unfolding linksAnswer
+    links-4 h = sym (turn-no first4 after4 e4 h)
+
+    module _ (h4 : r4 .number ≡ 0) {r5 : Answer} (e5 : r5 ≡ askEach 5 fifth) where
+      pub links-5 : (r5 .number ≡ 0 → ⊥) → r5 ≡ linksAnswer t type fifth ns
+      unfolding linksAnswer
+      links-5 h = sym (turn-yes first4 after4 e4 h4 ∙ turn-no (askEach 5 fifth) after5 e5 h)
+
+      module _ (h5 : r5 .number ≡ 0) {r6 : Answer} (e6 : r6 ≡ askEach 6 (question6 t ns)) where
+        pub links-6 : (r6 .number ≡ 0 → ⊥) → r6 ≡ linksAnswer t type fifth ns
+        unfolding linksAnswer
+        links-6 h = sym (turn-yes first4 after4 e4 h4 ∙ turn-yes (askEach 5 fifth) after5 e5 h5 ∙ turn-no (askEach 6 (question6 t ns)) after6 e6 h)
+
+        pub links-7 : {r7 : Answer} → r6 .number ≡ 0 → r7 ≡ askEach 7 (question7 (t .sets) type ns) → r7 ≡ linksAnswer t type fifth ns
+        unfolding linksAnswer
+        links-7 h6 e7 =
+            e7
+            ∙ sym (turn-yes first4 after4 e4 h4 ∙ turn-yes (askEach 5 fifth) after5 e5 h5 ∙ turn-yes (askEach 6 (question6 t ns)) after6 e6 h6 ∙ last-each 6 (question7 (t .sets) type ns))
+
+  -- what is known of links that pass
+  pub links-done : linksAnswer t type fifth ns .number ≡ 0 → (question6 t ns ≡ Yes) × (question7 (t .sets) type ns ≡ Yes)
+  unfolding linksAnswer
+  links-done h =
+      let a = turn-done first4 after4 h in
+      let b = turn-done (askEach 5 fifth) after5 (a .1) in
+      let c = turn-done (askEach 6 (question6 t ns)) after6 (b .1) in
+      let d = turn-done (askEach 7 (question7 (t .sets) type ns)) [] (c .1) in
+      (each-done 5 (question6 t ns) (c .0), each-done 6 (question7 (t .sets) type ns) (d .0))
 
 -- ---- questions without a place
 pub turn-place : (a : Answer) (rest : List Answer) → a .place ≡ 0 → inTurn rest .place ≡ 0 → inTurn (a ∷ rest) .place ≡ 0

@@ -7,3 +7,4 @@ pub mod Numbers
 pub mod Ordered
 pub mod PastCounts
 pub mod ReadBack
+pub mod Tidied

@@ -1,5 +1,5 @@
 -- Link points as a range of their two columns: the first of them, those that begin a link, and their link numbers.
-use Prim.Native.Nat.{ℕ, zero, suc, _+_, _-_, _≤_}
+use Prim.Native.Nat.{ℕ, zero, suc, _+_, _-_, _≤_, _<_}
 use native.Mathlib.Nat.{sub-zero, not-suc-le-zero, le-of-suc-le-suc}
 use native.Mathlib.Omega.{arith}
 use mathlib.Core.Path.{_≡_, refl, sym, ap, ap₂, _∙_}
@@ -13,8 +13,9 @@ use Rattle.link.specs.Lists.{upFrom}
 use Rattle.link.specs.Questions.{numberAt, numbers}
 use Rattle.link.proofs.Loops.{range-more, range-none}
 use Rattle.path.specs.declared.link_point.LinkPoint.{LinkPoint}
-use Rattle.path.specs.Records.{numberOf, pointAt, linkPoints, beginnings}
-use Rattle.path.proofs.LinkPoints.{length-links, linksFrom, links-more, links-none, links-all}
+use Rattle.path.specs.Records.{numberOf, pointAt, linkPoints, beginnings, Columns, linkPointAt, noLinkPoint, pathOf}
+use Rattle.path.proofs.LinkPoints.{length-links, linksFrom, links-more, links-none, links-all, link-at}
+use Rattle.path.specs.declared.path_tpc.PathTpc.{PathTpc}
 
 -- ---- the first k of n
 pub take-links : (k n : ℕ) (os : List Float) (ns : List ℕ) → k ≤ n → take k (linkPoints n os ns) ≡ linkPoints k os ns
@@ -64,3 +65,17 @@ module _ (os : List Float) (ns : List ℕ) where
       ap (λ (k : ℕ). take (k - 1) (linkPoints n os ns)) (length-links n os ns)
       ∙ take-links (n - 1) n os ns (omega arith)
       ∙ links-range (n - 1)
+
+-- ---- those of a path
+module _ (p : PathTpc) (c : Columns) where
+  pub present-range : beginnings (pathOf p c .links) ≡ upFrom (pointAt (c .offsets) (c .numbers)) 0 (p .«link_count» - 1)
+  unfolding pathOf
+  present-range = beginnings-range (c .offsets) (c .numbers) (p .«link_count»)
+
+  pub present-numbers : map numberOf (beginnings (pathOf p c .links)) ≡ numbers true (c .numbers) (p .«link_count» - 1)
+  unfolding pathOf
+  present-numbers = beginning-numbers (c .offsets) (c .numbers) (p .«link_count»)
+
+  pub first-point : 0 < p .«link_count» → linkPointAt (pathOf p c .links) 0 ≡ pointAt (c .offsets) (c .numbers) 0
+  unfolding pathOf
+  first-point h = link-at (p .«link_count») (c .offsets) (c .numbers) 0 noLinkPoint h

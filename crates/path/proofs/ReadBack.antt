@@ -1,7 +1,7 @@
 -- A path in its record and columns: read back as it was written, and written back as it was read.
 use Prim.Native.Nat.{ℕ, zero, suc, _*_, _≤_}
 use native.Mathlib.Nat.{not-suc-le-zero, le-of-suc-le-suc}
-use mathlib.Core.Path.{_≡_, refl, ap}
+use mathlib.Core.Path.{_≡_, refl, sym, ap, _∙_}
 use mathlib.Core.List.{List, [], _∷_, _++_, map}
 use lib.ListN.{length, take, drop}
 use lib.Ieee.{Float}
@@ -117,3 +117,7 @@ tidy p c h =
       ← zero-filled pair pair-lawful +0 (p .«speed_count») (c .speeds) (h .speeds),
       ← zero-filled three three-lawful +0 (p .«power_count») (c .powers) (h .powers),
     )
+
+-- and is read again as it was
+pub read-again : (p : PathTpc) (c : Columns) {l : Columns} → l ≡ columnsOf c (pathOf p c) → pathOf p l ≡ pathOf p c
+read-again p c e = ap (pathOf p) e ∙ ap (λ (q : PathTpc). pathOf q (columnsOf c (pathOf p c))) (sym (counted p c)) ∙ read-back c (pathOf p c)

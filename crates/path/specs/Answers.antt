@@ -6,6 +6,9 @@ use mathlib.Core.List.{List, [], _∷_}
 use lib.Dec.{eqb}
 use Rattle.link.specs.declared.network.Judged.{Judged}
 use Rattle.link.specs.declared.network.Judged.the-variants.{Yes, NoAt}
+use Rattle.link.specs.declared.train_params.TrainType.{TrainType}
+use Rattle.link.specs.Table.{LinkTable}
+use Rattle.link.specs.Questions.{question4, question6, question7}
 use Rattle.path.specs.declared.path_tpc.PathTpc.{PathTpc}
 use Rattle.path.specs.declared.path_tpc.Answer.{Answer}
 use Rattle.path.specs.declared.path_tpc.PathAnswer.{PathAnswer}
@@ -30,6 +33,17 @@ askEach n (NoAt i) = record { number = n; place = i }
 unfoldable pub inTurn : List Answer → Answer
 inTurn [] = done
 inTurn (a ∷ rest) = cond (isDone a) (inTurn rest) a
+
+-- questions 4 to 7 of the links ns; `fifth` is the answer to question 5, which a recalculation does not ask (yes)
+unfoldable pub linksAnswer : LinkTable → TrainType → Judged → List ℕ → Answer
+unfolding question4 question6 question7 inTurn
+linksAnswer t type fifth ns =
+    inTurn (
+    askEach 4 (question4 (t .links) (t .lengths) (t .sets) ns)
+    ∷ askEach 5 fifth
+    ∷ askEach 6 (question6 t ns)
+    ∷ askEach 7 (question7 (t .sets) type ns)
+    ∷ [])
 
 -- what a call that may change a path leaves: its answer with the path's record, and the columns
 pub record Outcome : Type 0 where

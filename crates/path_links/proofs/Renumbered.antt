@@ -26,7 +26,7 @@ use Rattle.path.proofs.ReadBack.{counted, link-fours}
 use Rattle.path.proofs.InTurn.{turn-no, turn-yes, turn-done, turn-none, last-each, judged-done, outcome-refused, outcome-done}
 use Rattle.path.proofs.Clauses.{sound-within, some-link, room}
 use Rattle.path_links.specs.Reindex.{newNumber, renumbers, renumberedFrom, renumbered, reindexedPath, reindexAnswer, reindexOf, renumberedFours, foursColumn}
-use Rattle.path.proofs.Numbers.{beginning-numbers}
+use Rattle.path.proofs.Numbers.{present-numbers}
 use Rattle.path_links.proofs.Fours.{renumbered-fours}
 
 -- ---- question 4 of one number
@@ -50,8 +50,8 @@ unfolding renumbered
 same-offsets new [] = refl
 same-offsets new (p ∷ ps) = same-offsets-from (numberOf p) new p ps
 
-same-length : (new : List ℕ) (ps : List LinkPoint) → length (renumbered new ps) ≡ length ps
-same-length new ps = sym (length-map (renumbered new ps) offsetOf) ∙ ap length (same-offsets new ps) ∙ length-map ps offsetOf
+pub length-renumbered : (new : List ℕ) (ps : List LinkPoint) → length (renumbered new ps) ≡ length ps
+length-renumbered new ps = sym (length-map (renumbered new ps) offsetOf) ∙ ap length (same-offsets new ps) ∙ length-map ps offsetOf
 
 -- ---- the column of numbers
 -- once it holds n points and zeros past them, it does so by its own records
@@ -86,10 +86,6 @@ module _ (new : List ℕ) (p : PathTpc) (c : Columns) where
   abbrev fourth : List Answer
   fourth = askEach 4 (firstNo (map (renumbers new) linkNumbers)) ∷ []
 
-  link-numbers : linkNumbers ≡ numbers true (c .numbers) (p .«link_count» - 1)
-  unfolding pathOf
-  link-numbers = beginning-numbers (c .offsets) (c .numbers) (p .«link_count»)
-
   -- r is the code's answer to questions 1 and 2
   module _ {r : Answer} (e : r ≡ pathAnswer true p c) where
     pub reindex-first : (r .number ≡ 0 → ⊥) → reindexAnswer new p c ≡ r
@@ -106,7 +102,7 @@ module _ (new : List ℕ) (p : PathTpc) (c : Columns) where
       reindex-4 g =
           turn-yes (pathAnswer true p c) fourth e t
           ∙ last-each 3 (firstNo (map (renumbers new) linkNumbers))
-          ∙ ap (askEach 4) (ap (λ (ns : List ℕ). firstNo (map (renumbers new) ns)) link-numbers ∙ sym g)
+          ∙ ap (askEach 4) (ap (λ (ns : List ℕ). firstNo (map (renumbers new) ns)) (present-numbers p c) ∙ sym g)
 
   -- what a call that is not refused knows
   reindex-done : reindexAnswer new p c .number ≡ 0 → (sound p c ≡ true) × (reindexAnswer new p c ≡ done)
@@ -115,7 +111,7 @@ module _ (new : List ℕ) (p : PathTpc) (c : Columns) where
 
   counts : recordOf (reindexedPath new (pathOf p c)) ≡ p
   unfolding recordOf reindexedPath
-  counts = cc (counted p c, same-length new (pathOf p c .links))
+  counts = cc (counted p c, length-renumbered new (pathOf p c .links))
 
   -- ---- what is left
   -- r is the code's answer to all the questions

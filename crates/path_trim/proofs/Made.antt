@@ -1,20 +1,15 @@
 -- `new`: refused, and done.
-use Prim.Native.Nat.{ℕ, _≤_}
+use Prim.Native.Nat.{ℕ}
 use native.Mathlib.Omega.{arith}
 use mathlib.Core.Path.{_≡_, sym, ap, _∙_}
 use mathlib.Core.Bool.{Bool, true, false}
 use mathlib.Core.List.{List, [], _∷_}
-use lib.ListN.{length}
 use lib.Ieee.{Float}
 use Rattle.ieee.specs.Number.{+0}
-use Rattle.column.specs.declared.Two.{Two}
-use Rattle.column.specs.Entries.{filled, zeroFrom}
+use Rattle.column.specs.Entries.{zeroFrom}
 use Rattle.column.specs.Records.{putRecord, flat, two}
 use Rattle.column.proofs.Filling.{zeros-filled}
-use Rattle.column.proofs.Bridge.{push-filled}
-use Rattle.speed.specs.Points.{point}
-use Rattle.speed.specs.Column.{pair}
-use Rattle.speed.proofs.Held.{pair-lawful}
+use Rattle.speed.proofs.Held.{one-point}
 use Rattle.link.specs.declared.train_params.TrainParams.{TrainParams}
 use Rattle.link.specs.Train.{topSpeed}
 use Rattle.path.specs.declared.path_tpc.PathTpc.{PathTpc}
@@ -26,13 +21,6 @@ use Rattle.path.specs.Sound.{trainFinite, withinBounds}
 use Rattle.path.proofs.InTurn.{first-no, first-yes, last-one, outcome-refused, outcome-done}
 use Rattle.path.proofs.Clauses.{room}
 use Rattle.path_trim.specs.New.{newPath, start, newAnswer, noPath, refusedNew, newOf}
-
--- one record in a column of zeros
-one-point : (c : List Float) (p : Two) → 2 ≤ length c → putRecord two (zeroFrom +0 0 c) 0 p ≡ filled +0 (length c) (flat pair (point (p .0) (p .1) ∷ []))
-unfolding flat putRecord
-one-point c p h =
-    ap (λ (l : List Float). putRecord two l 0 p) (zeros-filled +0 0 c (omega arith))
-    ∙ push-filled pair pair-lawful +0 (length c) [] (point (p .0) (p .1)) (omega arith)
 
 module _ (train : TrainParams) (c : Columns) where
   -- what is left where the answer is a, and where it is done

@@ -10,9 +10,9 @@ use Rattle.ieee.specs.Number.{+0}
 use Rattle.column.specs.declared.Two.{Two}
 use Rattle.column.specs.Entries.{filled, zeroFrom, moveFront, openGap, closeGap, insertAt, removeAt}
 use Rattle.column.specs.Records.{flat, recordAt, putRecord, two}
-use Rattle.column.proofs.Filling.{getD-within, length-filled}
+use Rattle.column.proofs.Filling.{getD-within, length-filled, zeros-filled}
 use Rattle.column.proofs.Entry.{two-entries, two-put}
-use Rattle.column.proofs.Bridge.{Lawful, length-records, length-flat, records-flat, record-at, put-filled, insert-filled, remove-filled, zero-filled, move-filled}
+use Rattle.column.proofs.Bridge.{Lawful, length-records, length-flat, records-flat, record-at, put-filled, push-filled, insert-filled, remove-filled, zero-filled, move-filled}
 use Rattle.speed.specs.Points.{Point, point, nowhere, offsetAt, speedAt, setSpeed, setOffset}
 use Rattle.speed.specs.Column.{pair, points, Holds, Leaves}
 use Rattle.speed.proofs.Steps.{length-inserted, length-removed}
@@ -114,6 +114,16 @@ moved c n j h room = holds-of c _ (drop j (points n c)) (omega (arith, length-dr
 -- the entries past the points become +0
 pub zeroed : (c : List Float) (n : ℕ) → 2 * n ≤ length c → Holds (zeroFrom +0 (2 * n) c) (points n c)
 zeroed c n room = holds-of c _ (points n c) (omega (arith, length-points n c)) (zero-filled pair pair-lawful +0 n c room)
+
+-- one point in a column of zeros
+pub one-point : (c : List Float) (r : Two) → 2 ≤ length c → putRecord two (zeroFrom +0 0 c) 0 r ≡ filled +0 (length c) (flat pair (point (r .0) (r .1) ∷ []))
+unfolding flat putRecord
+one-point c r h =
+    ap (λ (l : List Float). putRecord two l 0 r) (zeros-filled +0 0 c (omega arith))
+    ∙ push-filled pair pair-lawful +0 (length c) [] (point (r .0) (r .1)) (omega arith)
+
+pub one-held : (c : List Float) (r : Two) → 2 ≤ length c → Holds (putRecord two (zeroFrom +0 0 c) 0 r) (point (r .0) (r .1) ∷ [])
+one-held c r h = holds-of c _ (point (r .0) (r .1) ∷ []) (omega arith) (one-point c r h)
 
 -- ---- what a call leaves, said of the points at entry
 
