@@ -1,0 +1,3 @@
+-- The definitions of the crate `path_join`: what listed links add to a path.
+pub mod Listed
+pub mod Joined
