@@ -1,0 +1,26 @@
+-- Laws of the definitions, up to the claims of a book after any list of calls, and of the path beside it.
+pub mod Signs
+pub mod FiniteTrain
+pub mod Placed
+pub mod Ends
+pub mod Entered
+pub mod Joined
+pub mod Trimmed
+pub mod BookAlone
+pub mod Matching
+pub mod LinkEnds
+pub mod Entering
+pub mod Leaving
+pub mod Settled
+pub mod Ending
+pub mod Laying
+pub mod Grounding
+pub mod Written
+pub mod Lasts
+pub mod Staying
+pub mod StayTrimmed
+pub mod StayRenumbered
+pub mod LaidStretches
+pub mod StayJoined
+pub mod Running
+pub mod DemandThree

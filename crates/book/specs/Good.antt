@@ -1,0 +1,48 @@
+-- What document 01's questions have settled of the calls that were done, said of the book that each met. Definitions only.
+use Prim.Native.Nat.{ℕ, _≤_}
+use mathlib.Core.Path.{_≡_}
+use mathlib.Core.Bool.{Bool, true}
+use mathlib.Core.List.{List, [], _∷_}
+use lib.ListN.{length}
+use lib.Ieee as Ieee
+use lib.Ieee.{Float}
+use lib.Ieee.Scale.{finite}
+use Rattle.ieee.specs.Number.{_⊕_}
+use Rattle.link.specs.declared.train_params.TrainParams.{TrainParams}
+use Rattle.link.specs.Train.{lengthOf}
+use Rattle.link.specs.Table.{LinkTable, linkAt}
+use Rattle.link.specs.Questions.{wellFormed}
+use Rattle.path_speeds.specs.Limits.{setsOf, finiteAt}
+use Rattle.book.specs.Book.{Call, Told, Book, newBook, firstEnd, lastEnd, enterLink, enter}
+use Rattle.book.specs.Book.Call.{extend, clear, reindex, finish}
+
+-- a link that is joined at base
+pub record GoodLink (train : TrainParams) (t : LinkTable) (base : Float) (n : ℕ) : Type 0 where
+  -- question 6
+  pub formed : wellFormed t n ≡ true
+  -- question 8: the sums of the limits that are laid are finite, and so is its end, which lies beyond its beginning
+  pub sums : finiteAt train (lengthOf train) (setsOf t) base n ≡ true
+  pub end-finite : finite (linkAt t n .length ⊕ base) ≡ true
+  pub beyond : Ieee.lt base (linkAt t n .length ⊕ base) ≡ true
+
+abbrev pub GoodLinks : TrainParams → LinkTable → Book → List ℕ → Type 0
+GoodLinks train t b [] = Unit
+GoodLinks train t b (n ∷ ns) = GoodLink train t (lastEnd (b .ends)) n × GoodLinks train t (enterLink train t b n) ns
+
+pub record GoodClear (x : Float) (b : Book) : Type 0 where
+  -- question 10
+  pub not-before : Ieee.le (firstEnd (b .ends)) x ≡ true
+  pub not-after : Ieee.le x (lastEnd (b .ends)) ≡ true
+  -- question 12
+  pub two : 2 ≤ length (b .ends)
+
+abbrev pub GoodCall : TrainParams → Call → Book → Type 0
+GoodCall train (extend t ns) b = GoodLinks train t b ns
+GoodCall train (clear x) b = GoodClear x b
+GoodCall train (reindex new) b = Unit
+GoodCall train finish b = Unit
+
+-- each call that was done is so, on the book that it met
+abbrev pub GoodFrom : TrainParams → List Told → Book → Type 0
+GoodFrom train [] b = Unit
+GoodFrom train (told ∷ rest) b = (told .wasDone ≡ true → GoodCall train (told .call) b) × GoodFrom train rest (enter train told b)

@@ -1,0 +1,42 @@
+-- The front that question 8 carries from link to link is that of the path with the links joined.
+use Prim.Native.Nat.{ℕ, _-_}
+use native.Mathlib.Omega.{arith}
+use mathlib.Core.Path.{_≡_, refl, ap, _∙_}
+use mathlib.Core.List.{List, [], _∷_, _++_}
+use lib.ListN.{length, getD, set, length-append}
+use lib.Seq.{getD-append-seam}
+use lib.Ieee.{Float}
+use Rattle.ieee.specs.Number.{+0, _⊕_}
+use Rattle.lookup.specs.declared.path_res_coeff.PathResCoeff.{PathResCoeff}
+use Rattle.lookup.specs.Coeff.{resCoeff, noCoeff, standsAt, netOf}
+use Rattle.link.specs.declared.train_params.TrainParams.{TrainParams}
+use Rattle.link.specs.Table.{LinkTable, numbersOf}
+use Rattle.path.specs.declared.link_point.LinkPoint.{LinkPoint}
+use Rattle.path.specs.Records.{Path, linkPoint, offsetOf, noLinkPoint, endPoint, lastCoeff}
+use Rattle.path_stretches.specs.declared.stretch.Stretch.{Stretch}
+use Rattle.path_stretches.specs.Stretches.{withCoefficient, layStretch, layStretches, offsetAfter, netAfter}
+use Rattle.path_join.specs.Listed.{lengthAt, gradesIn, curvesIn, powersIn}
+use Rattle.path_join.specs.Joined.{joinPoint, joinRecords, join}
+use Rattle.path_extend.specs.Sums.{front, frontOf, gradesAt, curvesAt, frontAfter}
+use Rattle.path_extend.proofs.Ending.{last-snoc, stands-after, net-after}
+
+last-joined : (links : List ℕ) (lengths : List Float) (ps : List LinkPoint) (n : ℕ) → offsetOf (endPoint (joinPoint links lengths ps n)) ≡ lengthAt lengths n ⊕ offsetOf (endPoint ps)
+unfolding joinPoint
+last-joined links lengths ps n =
+    let number = numbersOf links n .«idx_curr» in
+    let base = offsetOf (endPoint ps) in
+    ap offsetOf
+    (last-snoc (set ps (length ps - 1) (linkPoint base (gradesIn links n) (curvesIn links n) (powersIn links n) number)) (linkPoint (lengthAt lengths n ⊕ base) 0 0 0 number) noLinkPoint)
+
+pub same-front : {a b c d a' b' c' d' : Float} → a ≡ a' → b ≡ b' → c ≡ c' → d ≡ d' → front a b c d ≡ front a' b' c' d'
+same-front p q r s = cc
+
+pub front-join : (train : TrainParams) (t : LinkTable) (path : Path) (n : ℕ) → frontOf (join train t path n) ≡ frontAfter train t (frontOf path) n
+unfolding frontOf frontAfter join joinRecords
+front-join train t path n =
+    let at = frontOf path in
+    same-front
+    (last-joined (t .links) (t .lengths) (path .links) n)
+    (stands-after (path .grades) (gradesAt train t at n))
+    (net-after (path .grades) (gradesAt train t at n))
+    (net-after (path .curves) (curvesAt train t at n))

@@ -1,0 +1,43 @@
+-- `start_front`: the last records of the path.
+use Rattle.path_extend.specs.Extend.{startFront}
+use borrow.Author.Needs.{needs}
+use Rattle.path_extend.proofs.extend.start_front.Statement.{statement}
+use Rattle.path_extend.proofs.extend.start_front.Tie as tie
+
+sub-coeff-at : tie.Need-sub-coeff-at
+sub-coeff-at c = search needs
+
+coeff-at-requires : tie.Need-coeff-at-requires
+coeff-at-requires c κs = search needs
+
+sub-coeff-at-2 : tie.Need-sub-coeff-at-2
+sub-coeff-at-2 c = search needs
+
+coeff-at-requires-2 : tie.Need-coeff-at-requires-2
+coeff-at-requires-2 c κs = search needs
+
+starting-net-requires : tie.Need-starting-net-requires
+starting-net-requires c κs = search needs
+
+sub-get : tie.Need-sub-get
+sub-get c = c .before .before .before .before .before .before .before .before .before .before .before .before .pre .0
+
+get-requires : tie.Need-get-requires
+get-requires c κs = search needs
+
+returns : tie.Need-returns
+unfolding startFront
+returns c = cc (c .before .before .before .before .before .coeff-at .ensures, c .before .before .before .coeff-at2 .ensures, c .before .before .starting-net .ensures, c .get .ensures)
+
+pub start-front-spec : {M : Type 1} → statement M
+start-front-spec =
+    tie.close
+    (tie.spec
+    sub-coeff-at
+    coeff-at-requires
+    sub-coeff-at-2
+    coeff-at-requires-2
+    starting-net-requires
+    sub-get
+    get-requires
+    returns)
