@@ -4,11 +4,14 @@ use libc::STDOUT_FILENO;
 use lookup::calc_idx::calc_idx;
 use lookup::lin_search_hint::Dir;
 use lookup::lin_search_hint::Found;
+use path::link_point::LinkPoint;
+use path::path_tpc::Answer;
+use path::path_tpc::PathTpc;
+use path_trim::clear::clear;
 use si::Length;
 use si::Velocity;
 use speed::insert_speed::insert_speed;
 use speed::speed_limit::SpeedLimit;
-use speed::speed_point::offset_at;
 
 fn say(text: &[u8]) {
     io::write_all(STDOUT_FILENO, text);
@@ -35,11 +38,21 @@ fn point(p: Two) {
     say(b")");
 }
 
-// The first n points of a column.
-fn points(col: &[f64], n: usize) {
+// Point i of a column, or, where it is no column of points, entry i.
+fn entry(col: &[f64], i: usize, pairs: bool) {
+    if pairs {
+        point(column::floats::two_at(col, i));
+    } else {
+        say(b" ");
+        number(column::floats::get(col, i));
+    }
+}
+
+// The first n points, or entries, of a column.
+fn entries(col: &[f64], n: usize, pairs: bool) {
     let mut i = 0;
     while i < n {
-        point(column::floats::two_at(col, i));
+        entry(col, i, pairs);
         i += 1;
     }
 }
@@ -55,11 +68,8 @@ fn lay(col: &mut [f64], n: usize, l: SpeedLimit) -> usize {
     if col.len() / 2 - n < 2 {
         return n;
     }
-    if offset_at(col, n, 0).0 <= l.offset_start.0 {
-        column::floats::zero_from(&mut *col, 2 * n);
-        return insert_speed(&mut *col, n, l);
-    }
-    n
+    column::floats::zero_from(&mut *col, 2 * n);
+    insert_speed(&mut *col, n, l)
 }
 
 // One row of the S rows; the count of points afterwards.
@@ -74,7 +84,7 @@ fn s_row(name: &[u8], col: &mut [f64], n: usize, from: f64, to: f64, at: f64) ->
             speed: Velocity(at),
         },
     );
-    points(col, m);
+    entries(col, m, true);
     say(b"\n");
     m
 }
@@ -114,6 +124,84 @@ fn s_rows() {
     s_row(b"S8", &mut c, 1, 5.0, 9.0, -12.0);
 }
 
+// The number of a refusal; nothing for "done".
+fn refusal(a: Answer) {
+    if a.number != 0 {
+        say(b" refused with ");
+        io::print_decimal(STDOUT_FILENO, a.number as u64);
+    }
+}
+
+fn count(n: usize) {
+    say(b" ");
+    io::print_decimal(STDOUT_FILENO, n as u64);
+}
+
+// The grades, curves and power limits that went.
+fn gone(d: LinkPoint) {
+    say(b"; dropped");
+    count(d.grade_count);
+    count(d.curve_count);
+    count(d.cat_power_count);
+    say(b"\n");
+}
+
+// One row of the T rows: links 1 and 2 from 0 to 100 and from there to 250, each with one flat grade and curve record, and n speed points.
+fn t_row(name: &[u8], speeds: &mut [f64], n: usize, x: f64) {
+    let mut offsets: [f64; 3] = [0.0, 100.0, 250.0];
+    let mut numbers: [u32; 12] = [1, 1, 0, 1, 1, 1, 0, 2, 0, 0, 0, 2];
+    let mut grades: [f64; 9] = [0.0, 0.0, 0.0, 100.0, 0.0, 0.0, 250.0, 0.0, 0.0];
+    let mut curves: [f64; 9] = [0.0, 0.0, 0.0, 100.0, 0.0, 0.0, 250.0, 0.0, 0.0];
+    let mut powers = [0.0; 3];
+    let mut districts = [0; 1];
+    let p = PathTpc {
+        link_count: 3,
+        grade_count: 3,
+        curve_count: 3,
+        speed_count: n,
+        power_count: 0,
+        is_finished: false,
+    };
+    let r = clear(
+        p,
+        Length(x),
+        &mut offsets,
+        &mut numbers,
+        &mut grades,
+        &mut curves,
+        &mut *speeds,
+        &mut powers,
+        &mut districts,
+    );
+    say(name);
+    refusal(r.outcome.answer);
+    entries(speeds, r.outcome.path.speed_count, true);
+    say(b"; links");
+    entries(&offsets, r.outcome.path.link_count, false);
+    gone(r.dropped);
+}
+
+// The points (0,30), (50,20) and (200,30).
+fn three_points() -> [f64; 16] {
+    let mut a = one_point();
+    a[2] = 50.0;
+    a[3] = 20.0;
+    a[4] = 200.0;
+    a[5] = 30.0;
+    a
+}
+
+fn t_rows() {
+    let mut a = three_points();
+    t_row(b"T1", &mut a, 3, 120.0);
+    let mut b = three_points();
+    t_row(b"T2", &mut b, 3, 100.0);
+    let mut c = two_points();
+    t_row(b"T3", &mut c, 2, 120.0);
+    let mut d = two_points();
+    t_row(b"T4", &mut d, 2, 251.0);
+}
+
 // What a lookup answers: the index, or the number of the refusal.
 fn told(f: Found) {
     match f {
@@ -149,5 +237,6 @@ fn l_rows() {
 
 fn main() {
     s_rows();
+    t_rows();
     l_rows();
 }

@@ -1,15 +1,8 @@
 -- `lay`: zeros past the points, and then the limit.
-use mathlib.Core.Path.{_≡_, sym, ap, _∙_}
-use mathlib.Core.Bool.{true}
 use Prim.Native.Nat.{_*_, _≤_}
 use native.Mathlib.Omega.{arith}
 use lib.ListN.{length}
-use lib.Ieee as Ieee
-use lib.Ieee.{Float}
-use Rattle.speed.specs.Points.{Point, offsetAt}
-use Rattle.speed.specs.Column.{points}
 use Rattle.speed.proofs.Held.{next-zeroed}
-use mathlib.Core.List.{List}
 use borrow.Author.Needs.{needs}
 use Rattle.rows.proofs.lay.Statement.{statement}
 use Rattle.rows.proofs.lay.Tie as tie
@@ -26,9 +19,6 @@ sub-if3 c = search needs
 returns-3 : tie.Need-returns-3
 returns-3 c = search needs
 
-offset-at-requires : tie.Need-offset-at-requires
-offset-at-requires c κs = search needs
-
 mul-zero-from : tie.Need-mul-zero-from
 mul-zero-from c = search needs
 
@@ -37,27 +27,18 @@ zero-from-requires c κs = search needs
 
 insert-speed-requires : tie.Need-insert-speed-requires
 insert-speed-requires c κs =
-    let n = c .before .before .before .before .before .before .before .before .before .before .before .before .before .before .args .n in
-    let l = c .before .before .before .before .before .before .before .before .before .before .before .before .before .before .args .col .now in
+    let n = c .before .before .before .before .before .before .before .before .before .args .n in
+    let l = c .before .before .before .before .before .before .before .before .before .args .col .now in
     let d = c .before .before .before .zero-from .last .0 in
-    let s = c .before .before .before .before .before .before .before .before .before .before .before .before .before .before .args .l .«offset_start» .0 in
     let room : 2 * n ≤ length l = omega arith in
     let next = next-zeroed l d n room (c .before .before .before .zero-from .ensures) in
-    let first : Ieee.le (offsetAt (points n d) 0) s ≡ true =
-    ap (λ (ps : List Point). Ieee.le (offsetAt ps 0) s) (next .0) ∙ ap (λ (y : Float). Ieee.le y s) (sym (c .before .before .before .before .before .before .before .before .offset-at .ensures)) ∙ c .before .before .before .before .before .if4 .taken in
-    (omega arith, (omega (arith, c .before .before .before .zero-from .kept .0), (next .1, first)))
+    (omega arith, (omega (arith, c .before .before .before .zero-from .kept .0), next .1))
 
 same-length : tie.Need-same-length
 same-length c = search needs
 
 returns-4 : tie.Need-returns-4
 returns-4 c = search needs
-
-same-length-2 : tie.Need-same-length-2
-same-length-2 c = search needs
-
-returns-5 : tie.Need-returns-5
-returns-5 c = search needs
 
 pub lay-spec : {M : Type 1} → statement M
 lay-spec =
@@ -67,11 +48,8 @@ lay-spec =
     returns-2
     sub-if3
     returns-3
-    offset-at-requires
     mul-zero-from
     zero-from-requires
     insert-speed-requires
     same-length
-    returns-4
-    same-length-2
-    returns-5)
+    returns-4)
