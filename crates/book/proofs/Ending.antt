@@ -1,10 +1,9 @@
 -- Where the records of a link end that question 6 has passed: at the link's end, to the bit, and how many they are.
-use Prim.Native.Nat.{ℕ, zero, suc, _-_, _*_}
-use native.Mathlib.Omega.{arith}
-use mathlib.Core.Path.{_≡_, refl, sym, ap, _∙_}
-use mathlib.Core.Bool.{Bool, true, false, not, cond, false≢true}
+use Prim.Native.Nat.{ℕ, zero, suc, _*_}
+use mathlib.Core.Path.{_≡_, sym, ap, _∙_}
+use mathlib.Core.Bool.{Bool, true, false, not, false≢true}
 use mathlib.Core.List.{List, [], _∷_}
-use lib.Dec.{T, not-T, eqb·suc-zero}
+use lib.Dec.{T, not-T}
 use lib.ListN.{length, getD, drop}
 use lib.Ieee as Ieee
 use lib.Ieee.{Float, binary64, fits}
@@ -19,9 +18,11 @@ use Rattle.link.specs.Table.{LinkTable, Sample, sampleAt, numbersOf, linkAt}
 use Rattle.link.specs.Questions.{riseTo, spans, sampleFinite, samplesFormed, wellFormed}
 use Rattle.link.proofs.Known.{and-both, formed}
 use Rattle.link.proofs.Loops.{length-range}
-use Rattle.path_stretches.specs.Stretches.{gradeStretch, curveStretch, stretchStep, stretchesFrom, stretches, recordCount, stretchCount, offsetAfter}
+use Rattle.path_stretches.specs.Stretches.{stretches, recordCount, offsetAfter}
 use Rattle.path_join.specs.Listed.{risesOf, lengthAt, samplesAt, recordsIn, lastOffset, endFrom, gradeEnd}
 use Rattle.book.specs.Demand.{F64, TableF64}
+use Rattle.path_stretches.proofs.Ended.{length-stretches}
+use Rattle.path_extend.proofs.Ending.{stretches-end}
 
 -- ---- numbers of binary64
 
@@ -48,39 +49,6 @@ range-fits : (at : ℕ → Sample) → ((i : ℕ) → T (fits binary64 (at i .of
 unfolding upFrom
 range-fits at h start zero = tt
 range-fits at h start (suc n) = (h start, range-fits at h (suc start) n)
-
--- ---- the stretches of samples
-
-step-end : (curves : Bool) (train : TrainParams) (base net : Float) (prior current : Sample) → stretchStep curves train base net prior current .offset .0 ≡ base ⊕ current .offset
-unfolding gradeStretch curveStretch
-step-end true train base net prior current = refl
-step-end false train base net prior current = refl
-
-module _ (curves : Bool) (train : TrainParams) (base : Float) where
-  from-end : (o net : Float) (prior : Sample) (ss : List Sample) → o ≡ base ⊕ prior .offset
-      → offsetAfter o (stretchesFrom (stretchStep curves train base) net prior ss) ≡ base ⊕ lastOffset (prior .offset) ss
-  unfolding offsetAfter stretchesFrom
-  from-end o net prior [] e = e
-  from-end o net prior (s ∷ ss) e = let step = stretchStep curves train base net prior s in from-end (step .offset .0) (step .net .0) s ss (step-end curves train base net prior s)
-
-  -- grades and curves end alike
-  stretches-end : (net long : Float) (ss : List Sample) → offsetAfter base (stretches curves train base net long ss) ≡ endFrom base long ss
-  unfolding offsetAfter stretches stretchesFrom
-  stretches-end net long [] = refl
-  stretches-end net long (s ∷ []) = refl
-  stretches-end net long (s ∷ r ∷ ss) = let step = stretchStep curves train base net s r in from-end (step .offset .0) (step .net .0) r ss (step-end curves train base net s r)
-
-  from-many : (net : Float) (prior : Sample) (ss : List Sample) → length (stretchesFrom (stretchStep curves train base) net prior ss) ≡ length ss
-  unfolding stretchesFrom
-  from-many net prior [] = refl
-  from-many net prior (s ∷ ss) = ap suc (from-many (stretchStep curves train base net prior s .net .0) s ss)
-
-  stretches-many : (net long : Float) (ss : List Sample) → length (stretches curves train base net long ss) ≡ stretchCount ss
-  unfolding stretches
-  stretches-many net long [] = refl
-  stretches-many net long (s ∷ ss) =
-      let less : length ss ≡ suc (length ss) - 1 = omega arith in
-      from-many net s ss ∙ less ∙ ap (λ (b : Bool). cond b 1 (suc (length ss) - 1)) (sym (eqb·suc-zero (length ss)))
 
 -- ---- the last sample stands at the length
 
@@ -113,11 +81,11 @@ pub records-many : (curves : Bool) (train : TrainParams) (t : LinkTable) (base n
     → length (stretches curves train base net (lengthAt (t .lengths) n) (samplesAt curves (risesOf t) (t .headings) n)) ≡ recordsIn curves (t .links) n
 records-many true train t base net n =
     let a = numbersOf (t .links) n in
-    stretches-many true train base net (lengthAt (t .lengths) n) (samplesAt true (risesOf t) (t .headings) n)
+    length-stretches true train base net (lengthAt (t .lengths) n) (samplesAt true (risesOf t) (t .headings) n)
     ∙ ap recordCount (length-range (sampleAt (t .headings)) (a .«headings_first») (a .«headings_count»))
 records-many false train t base net n =
     let a = numbersOf (t .links) n in
-    stretches-many false train base net (lengthAt (t .lengths) n) (samplesAt false (risesOf t) (t .headings) n)
+    length-stretches false train base net (lengthAt (t .lengths) n) (samplesAt false (risesOf t) (t .headings) n)
     ∙ ap recordCount (length-range (sampleAt (t .elevs)) (a .«elevs_first») (a .«elevs_count»))
 
 module _ (t : LinkTable) (n : ℕ) (whole : TableF64 t) (passed : wellFormed t n ≡ true) where

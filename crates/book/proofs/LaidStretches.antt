@@ -1,13 +1,11 @@
--- Stretches laid on records: how many there are, where they end, and that they stay finite. Laws of stretches alone, for `path_stretches`.
-use Prim.Native.Nat.{suc, _+_, _-_}
-use native.Mathlib.Omega.{arith}
-use mathlib.Core.Path.{_≡_, refl, sym, ap, ap₂, _∙_}
+-- Stretches laid on records: what is finite stays so.
+use Prim.Native.Nat.{_-_}
+use mathlib.Core.Path.{_≡_, refl, ap₂, _∙_}
 use mathlib.Core.Bool.{Bool, true, false, _&&_, cond}
 use mathlib.Core.List.{List, [], _∷_}
-use lib.ListN.{length, set, length-append, length-set}
+use lib.ListN.{length, set}
 use lib.Ieee.{Float}
 use lib.Ieee.Scale.{finite}
-use borrow.Author.Tests.{ne-eqb}
 use Rattle.ieee.specs.Number.{+0, allFinite, _⊕_, _⊖_, _⊗_, _⊘_}
 use Rattle.lookup.specs.declared.path_res_coeff.PathResCoeff.{PathResCoeff}
 use Rattle.lookup.specs.Coeff.{noCoeff, resCoeff, standsAt, coefficientOf, netOf}
@@ -18,9 +16,9 @@ use Rattle.link.specs.Table.{Sample}
 use Rattle.link.proofs.Known.{and-both}
 use Rattle.path.specs.Records.{lastCoeff}
 use Rattle.path_stretches.specs.declared.stretch.Stretch.{Stretch}
-use Rattle.path_stretches.specs.Stretches.{gradeStretch, radpm, curvatureOf, turnFinite, curveWork, curveStretch, stretchStep, stretchesFrom, stretches, recordCount, offsetAfter, netAfter, isFinite, withCoefficient, layStretch, layStretches}
+use Rattle.path_stretches.specs.Stretches.{gradeStretch, radpm, curvatureOf, turnFinite, curveWork, curveStretch, stretchStep, stretchesFrom, stretches, isFinite, withCoefficient, layStretch, layStretches}
 use Rattle.book.proofs.Written.{valuesFinite}
-use Rattle.book.proofs.Lasts.{last-more, every-append, every-set, every-last, wholeFinite}
+use Rattle.book.proofs.Lasts.{every-append, every-set, every-last, wholeFinite}
 
 -- ---- what is finite in a stretch
 
@@ -77,45 +75,7 @@ unfolding stretches every
 stretches-lay curves train base net long [] n e = ap₂ _&&_ (ap₂ _&&_ (and-both (finite (base ⊕ long)) true e .0) n) refl
 stretches-lay curves train base net long (s ∷ ss) n e = from-lays curves train base net s ss e
 
--- ---- how many they are
-
-length-stretches-from : (step : Float → Sample → Sample → Stretch) (net : Float) (prior : Sample) (ss : List Sample) → length (stretchesFrom step net prior ss) ≡ length ss
-unfolding stretchesFrom
-length-stretches-from step net prior [] = refl
-length-stretches-from step net prior (s ∷ ss) = ap suc (length-stretches-from step (step net prior s .net .0) s ss)
-
-pub length-stretches : (curves : Bool) (train : TrainParams) (base net long : Float) (ss : List Sample) → length (stretches curves train base net long ss) ≡ recordCount (length ss)
-unfolding stretches
-length-stretches curves train base net long [] = refl
-length-stretches curves train base net long (s ∷ ss) =
-    let n = suc (length ss) in
-    let e : length ss ≡ n - 1 = omega arith in
-    length-stretches-from (stretchStep curves train base) net s ss ∙ e ∙ ap (λ (b : Bool). cond b 1 (n - 1)) (sym (ne-eqb n 0 (λ z. omega arith)))
-
--- ---- laid
-
-pub length-laid : (gs : List PathResCoeff) (ss : List Stretch) → length (layStretches gs ss) ≡ length gs + length ss
-unfolding layStretches
-length-laid gs [] = omega arith
-length-laid gs (s ∷ ss) =
-    let changed = set gs (length gs - 1) (withCoefficient s (lastCoeff gs)) in
-    omega (arith, length-laid (layStretch gs s) ss, length-append changed (resCoeff (s .offset .0) +0 (s .net .0) ∷ []), length-set gs (length gs - 1) (withCoefficient s (lastCoeff gs)))
-
-last-laid : (gs : List PathResCoeff) (s : Stretch) → lastCoeff (layStretch gs s) ≡ resCoeff (s .offset .0) +0 (s .net .0)
-last-laid gs s = last-more noCoeff (set gs (length gs - 1) (withCoefficient s (lastCoeff gs))) (resCoeff (s .offset .0) +0 (s .net .0))
-
--- where they end
-pub offset-laid : (gs : List PathResCoeff) (ss : List Stretch) → standsAt (lastCoeff (layStretches gs ss)) ≡ offsetAfter (standsAt (lastCoeff gs)) ss
-unfolding layStretches offsetAfter
-offset-laid gs [] = refl
-offset-laid gs (s ∷ ss) = offset-laid (layStretch gs s) ss ∙ ap (λ (g : PathResCoeff). offsetAfter (standsAt g) ss) (last-laid gs s)
-
-pub net-laid : (gs : List PathResCoeff) (ss : List Stretch) → netOf (lastCoeff (layStretches gs ss)) ≡ netAfter (netOf (lastCoeff gs)) ss
-unfolding layStretches netAfter
-net-laid gs [] = refl
-net-laid gs (s ∷ ss) = net-laid (layStretch gs s) ss ∙ ap (λ (g : PathResCoeff). netAfter (netOf g) ss) (last-laid gs s)
-
--- what is finite stays so
+-- ---- laid: what is finite stays so
 with-finite : (s : Stretch) (g : PathResCoeff) → wholeFinite g ≡ true → laysFinite s ≡ true → wholeFinite (withCoefficient s g) ≡ true
 with-finite s g e f = pick (s .keeps)
   where

@@ -13,14 +13,11 @@ use Rattle.ieee.specs.Number.{allFinite}
 use Rattle.column.specs.Records.{flat}
 use Rattle.lookup.specs.declared.path_res_coeff.PathResCoeff.{PathResCoeff}
 use Rattle.lookup.specs.Coeff.{standsAt, closesWell}
-use Rattle.link.specs.declared.network.Judged.{Judged}
-use Rattle.link.specs.declared.network.Judged.the-variants.{Yes, NoAt}
 use Rattle.link.specs.Lists.{every}
 use Rattle.link.specs.Table.{PowerLimit}
 use Rattle.link.proofs.Known.{and-both}
 use Rattle.path.specs.declared.link_point.LinkPoint.{LinkPoint}
 use Rattle.path.specs.Records.{numberOf, linkPointAt}
-use Rattle.path.specs.Answers.{askEach}
 use Rattle.path.specs.Sound.{total, allNumbered, numbersReal}
 use Rattle.book.proofs.Written.{valuesFinite, recordsFinite, powerNumbers}
 

@@ -33,17 +33,12 @@ use Rattle.book.specs.Book.{Book, lastEnd, enterLink}
 use Rattle.book.specs.Demand.{TableF64}
 use Rattle.book.proofs.Matching.{Begun}
 use Rattle.book.proofs.Ending.{records-many, records-end}
+use Rattle.book.proofs.Lasts.{total-append}
 
 -- ---- where records stand
 
 pub stands : (rs : List PathResCoeff) (i : ℕ) → coeff.offsetAt rs i ≡ getD (map standsAt rs) i +0
 stands rs i = sym (List·getD-map standsAt rs i noCoeff)
-
-module _ (count : LinkPoint → ℕ) where
-  pub total-append : (ps qs : List LinkPoint) → total count (ps ++ qs) ≡ total count ps + total count qs
-  unfolding total
-  total-append [] qs = omega arith
-  total-append (p ∷ ps) qs = omega (arith, total-append ps qs)
 
 -- ---- records laid for stretches
 

@@ -14,16 +14,17 @@ use Rattle.speed.specs.Clear.{clearPoints}
 use Rattle.speed_laws.proofs.Clear.{clear-same}
 use Rattle.link.specs.declared.train_params.TrainParams.{TrainParams}
 use Rattle.path.specs.declared.link_point.LinkPoint.{LinkPoint}
-use Rattle.path.specs.Records.{Path, offsetOf, linkPointAt, numberOf}
+use Rattle.path.specs.Records.{Path, offsetOf, linkPointAt}
 use Rattle.path_trim.specs.New.{newPath}
 use Rattle.path_trim.specs.Finish.{finishedPath}
 use Rattle.path_trim.specs.Clear.{countBefore, dropCount, withoutLinks, clearedPath}
-use Rattle.path_links.specs.Reindex.{newNumber, renumberedFrom, renumbered, reindexedPath}
+use Rattle.path_links.specs.Reindex.{reindexedPath}
 use Rattle.book.specs.Book.{Book, newBook, firstEnd, dropEndsFrom, dropEnds, dropBehind}
 use Rattle.book.specs.Claims.{Claims}
 use Rattle.book.proofs.Matching.{Matched}
 use Rattle.book.proofs.Ends.{first-offset}
 use Rattle.book.proofs.LinkEnds.{end-offset, same-count}
+use Rattle.path_links.proofs.Renumbered.{same-offsets}
 
 -- ---- the links that `clear` drops are the ends that the book drops
 
@@ -91,19 +92,9 @@ module _ (train : TrainParams) (x : Float) (path : Path) (b : Book) (c : Claims 
 
 -- ---- `reindex`, `finish` and `new`
 
-renumbered-from : (last : ℕ) (new : List ℕ) (p : LinkPoint) (ps : List LinkPoint) → map offsetOf (renumberedFrom last new p ps) ≡ map offsetOf (p ∷ ps)
-unfolding renumberedFrom
-renumbered-from last new p [] = refl
-renumbered-from last new p (q ∷ qs) = ap (λ (l : List Float). offsetOf p ∷ l) (renumbered-from (newNumber new (numberOf p)) new q qs)
-
-renumbered-ends : (new : List ℕ) (ps : List LinkPoint) → map offsetOf (renumbered new ps) ≡ map offsetOf ps
-unfolding renumbered
-renumbered-ends new [] = refl
-renumbered-ends new (p ∷ ps) = renumbered-from (numberOf p) new p ps
-
 pub reindex-matched : (new : List ℕ) (path : Path) (b : Book) → Matched path b → Matched (reindexedPath new path) b
 unfolding reindexedPath
-reindex-matched new path b m = record { links = renumbered-ends new (path .links) ∙ m .links; points = m .points }
+reindex-matched new path b m = record { links = same-offsets new (path .links) ∙ m .links; points = m .points }
 
 pub finish-matched : (path : Path) (b : Book) → Matched path b → Matched (finishedPath path) b
 unfolding finishedPath

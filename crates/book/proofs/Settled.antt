@@ -11,8 +11,6 @@ use lib.Ieee.{Float}
 use lib.Ieee.Scale.{finite}
 use borrow.Author.Tests.{leb-true}
 use Rattle.link.specs.declared.train_params.TrainParams.{TrainParams}
-use Rattle.link.specs.declared.network.Judged.{Judged}
-use Rattle.link.specs.declared.network.Judged.the-variants.{Yes, NoAt}
 use Rattle.link.specs.Lists.{every, firstNo}
 use Rattle.link.specs.Train.{lengthOf}
 use Rattle.link.specs.Table.{LinkTable, linkAt}

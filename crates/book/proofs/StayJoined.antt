@@ -42,16 +42,17 @@ use Rattle.path_stretches.specs.Powers.{placedPower, powerFinite}
 use Rattle.path_join.specs.Listed.{risesOf, lengthAt, elevsAt, samplesAt, powersAt, gradesIn, curvesIn, powersIn, recordsIn, sumOf}
 use Rattle.path_join.specs.Joined.{joinPoint, joinRecords, joinPowers, join, joinAll, firstValue, startingNet, withNet, startNet, started}
 use Rattle.path_extend.specs.declared.front.Front.{Front}
-use Rattle.path_extend.specs.Sums.{front, frontOf, gradesAt, curvesAt, endAt, frontAfter, sumsFinite, sumsFrom}
+use Rattle.path_extend.specs.Sums.{frontOf, gradesAt, curvesAt, endAt, frontAfter, sumsFinite, sumsFrom}
 use Rattle.path_extend.specs.Extend.{recordsFit, followed, sumsAnswer, extendAnswer}
 use Rattle.book.specs.Book.{Book}
 use Rattle.book.specs.Claims.{Claims}
 use Rattle.book.proofs.Matching.{Matched, Grounded}
 use Rattle.book.proofs.Written.{valuesFinite, recordsFinite, powerNumbers}
 use Rattle.book.proofs.Lasts.{last-more, every-append, every-take, every-set, every-last, total-append, real-many, wholeFinite, open-finite}
-use Rattle.book.proofs.LaidStretches.{stretches-lay, length-stretches, length-laid, offset-laid, net-laid, finite-laid}
+use Rattle.book.proofs.LaidStretches.{stretches-lay, finite-laid}
 use Rattle.book.proofs.Staying.{Own, Stays, stays, NoMore, fewer-within, Before, before}
 use Rattle.path_extend.proofs.Fronts.{front-join}
+use Rattle.path_stretches.proofs.Ended.{length-laid, length-stretches}
 
 -- ---- link points
 

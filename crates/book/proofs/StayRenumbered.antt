@@ -21,16 +21,7 @@ use Rattle.book.specs.Claims.{Claims}
 use Rattle.book.proofs.Matching.{Matched, Grounded}
 use Rattle.book.proofs.Lasts.{real-many}
 use Rattle.book.proofs.Staying.{Own, Stays, stays, NoMore, fewer-within, before}
-
-length-from : (last : ℕ) (new : List ℕ) (p : LinkPoint) (ps : List LinkPoint) → length (renumberedFrom last new p ps) ≡ suc (length ps)
-unfolding renumberedFrom
-length-from last new p [] = refl
-length-from last new p (q ∷ qs) = ap suc (length-from (newNumber new (numberOf p)) new q qs)
-
-pub length-renumbered : (new : List ℕ) (ps : List LinkPoint) → length (renumbered new ps) ≡ length ps
-unfolding renumbered
-length-renumbered new [] = refl
-length-renumbered new (p ∷ ps) = length-from (numberOf p) new p ps
+use Rattle.path_links.proofs.Renumbered.{length-renumbered}
 
 -- ---- a count that the number does not change
 module _ (count : LinkPoint → ℕ) (same : (n : ℕ) (p : LinkPoint) → count (withNumber n p) ≡ count p) where
@@ -55,7 +46,7 @@ module _ (count : LinkPoint → ℕ) (same : (n : ℕ) (p : LinkPoint) → count
   unfolding renumbered
   end-renumbered new [] = refl
   end-renumbered new (p ∷ ps) =
-      ap (λ (k : ℕ). count (linkPointAt (renumberedFrom (numberOf p) new p ps) (k - 1))) (length-from (numberOf p) new p ps) ∙ count-from (numberOf p) new p ps (suc (length ps) - 1)
+      ap (λ (k : ℕ). count (linkPointAt (renumberedFrom (numberOf p) new p ps) (k - 1))) (length-renumbered new (p ∷ ps)) ∙ count-from (numberOf p) new p ps (suc (length ps) - 1)
 
 -- ---- the numbers
 
@@ -86,7 +77,7 @@ unfolding renumbered
 numbers-renumbered new [] h e = e
 numbers-renumbered new (p ∷ []) h e = unfold renumberedFrom numbersReal in e
 numbers-renumbered new (p ∷ q ∷ qs) h e =
-    real-many (renumberedFrom (numberOf p) new p (q ∷ qs)) (length qs) (length-from (numberOf p) new p (q ∷ qs)) (unfold renumberedFrom in numbered-from 1 new p (q ∷ qs) refl h) (end-alike (numberOf p) new p q qs)
+    real-many (renumberedFrom (numberOf p) new p (q ∷ qs)) (length qs) (length-renumbered new (p ∷ q ∷ qs)) (unfold renumberedFrom in numbered-from 1 new p (q ∷ qs) refl h) (end-alike (numberOf p) new p q qs)
 
 -- ---- the path
 own-reindex : (new : List ℕ) (path : Path) → every (renumbers new) (map numberOf (beginnings (path .links))) ≡ true → Own path → Own (reindexedPath new path)

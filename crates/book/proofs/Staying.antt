@@ -38,6 +38,7 @@ use Rattle.book.specs.Claims.{Offset, Offsets, RisingFrom, Rising, Claim
 use Rattle.book.proofs.Matching.{Matched, Begun, Grounded}
 use Rattle.book.proofs.Ends.{first-offset}
 use Rattle.book.proofs.Written.{recordsFinite, pointNumbers, powerNumbers, FinitePath, read-finite, written-sound, written-finite}
+use Rattle.book.proofs.LinkEnds.{end-offset}
 
 -- what a path has to show beside its book
 pub record Own (path : Path) : Type 0 where
@@ -59,11 +60,6 @@ offset-at : (es : List Float) (k : ℕ) → Offsets es → k < length es → Off
 offset-at [] k h l = absurd (not-suc-le-zero l)
 offset-at (e ∷ es) zero h l = h .0
 offset-at (e ∷ es) (suc k) h l = offset-at es k (h .1) (le-of-suc-le-suc l)
-
-end-at : (ps : List LinkPoint) (k : ℕ) → k < length ps → getD (map offsetOf ps) k nan ≡ offsetOf (linkPointAt ps k)
-end-at [] k l = absurd (not-suc-le-zero l)
-end-at (p ∷ ps) zero l = refl
-end-at (p ∷ ps) (suc k) l = end-at ps k (le-of-suc-le-suc l)
 
 ends-finite : (es : List Float) → Offsets es → allFinite es ≡ true
 unfolding allFinite
@@ -141,7 +137,7 @@ module _ (count : LinkPoint → ℕ) (ps : List LinkPoint) (gs : List PathResCoe
   first-at = first-all count gs 0 ps (λ k h.
       let z : 0 + total count (take k ps) ≡ total count (take k ps) = omega arith in
       let o = offsetOf (linkPointAt ps k) in
-      let is : getD es k nan ≡ o = ap (λ (l : List Float). getD l k nan) (sym e) ∙ end-at ps k h in
+      let is : getD es k nan ≡ o = ap (λ (l : List Float). getD l k nan) (sym e) ∙ end-offset ps k h in
       let fine : T (real o) = subst (λ (x : Float). T (real x)) is (finite-real (getD es k nan) (offset-at es k good (omega (arith, long)) .is-finite)) in
       ap (λ (m : ℕ). standsThere gs m o) z ∙ ap (λ (x : Float). Ieee.eq x o) (first-is k h ∙ is) ∙ is-true (Ieee.eq o o) (eq-refl o fine))
 
@@ -178,7 +174,7 @@ module _ (train : TrainParams) (b : Book) (after : Path) (claims : Claims train 
   begins = offsetOf (linkPointAt ps 0)
 
   first-end : firstEnd (b .ends) ≡ begins
-  first-end = ap (λ (l : List Float). getD l 0 nan) (sym (matched .links)) ∙ end-at ps 0 some-links
+  first-end = ap (λ (l : List Float). getD l 0 nan) (sym (matched .links)) ∙ end-offset ps 0 some-links
 
   begins-real : T (real begins)
   begins-real = subst (λ (x : Float). T (real x)) first-end (finite-real (firstEnd (b .ends)) (first-offset (b .ends) (claims .some-end) (claims .ends-good) .is-finite))

@@ -4,13 +4,12 @@ use native.Mathlib.Omega.{arith}
 use mathlib.Core.Path.{_≡_, refl, sym, ap, ap₂, _∙_}
 use mathlib.Core.Bool.{Bool, true, false, cond}
 use mathlib.Core.List.{List, [], _∷_}
-use lib.Dec.{eqb, leb}
-use lib.ListN.{length, getD}
+use lib.Dec.{leb}
+use lib.ListN.{length}
 use lib.Ieee.{Float}
-use borrow.Author.Tests.{eqb-true, eqb-false, le-leb, lt-leb}
-use Rattle.column.specs.Records.{recordAt}
-use Rattle.column.proofs.Bridge.{length-records, record-at}
-use Rattle.lookup.specs.Coeff.{triple, coeffs, noCoeff, standsAt, netOf}
+use borrow.Author.Tests.{le-leb, lt-leb}
+use Rattle.column.proofs.Bridge.{length-records}
+use Rattle.lookup.specs.Coeff.{triple, coeffs, standsAt, netOf}
 use Rattle.lookup.proofs.Coeffs.{triple-lawful}
 use Rattle.link.specs.declared.train_params.TrainParams.{TrainParams}
 use Rattle.link.specs.declared.network.Judged.{Judged}
@@ -21,7 +20,7 @@ use Rattle.link.proofs.Known.{and-both, all-formed, numbers-plain}
 use Rattle.path.specs.declared.path_tpc.PathTpc.{PathTpc}
 use Rattle.path.specs.declared.path_tpc.Answer.{Answer}
 use Rattle.path.specs.declared.link_point.LinkPoint.{LinkPoint}
-use Rattle.path.specs.Records.{Columns, offsetOf, numberOf, linkPoints, pointAt, noLinkPoint, linkPointAt, lastCoeff, pathOf, fitsLinks, fitsGrades, fitsCurves, fitsSpeeds, fitsPowers}
+use Rattle.path.specs.Records.{Columns, offsetOf, numberOf, linkPoints, pointAt, noLinkPoint, linkPointAt, pathOf, fitsLinks, fitsGrades, fitsCurves, fitsSpeeds, fitsPowers}
 use Rattle.path.specs.Answers.{done, ask, askEach, inTurn, linksAnswer}
 use Rattle.path.specs.Sound.{trainFinite, sound, pathAnswer, isOpen}
 use Rattle.path.proofs.LinkPoints.{length-links, link-at, end-at}
@@ -30,7 +29,7 @@ use Rattle.path.proofs.Clauses.{within-all, times, sound-within, some-link, som
 use Rattle.path_speeds.specs.Limits.{setsOf, countAt}
 use Rattle.path_join.specs.Listed.{gradesIn, curvesIn, powersIn, sumOf}
 use Rattle.path_join.specs.Joined.{startingNet, started}
-use Rattle.path_extend.specs.Sums.{front, frontOf, sumsFrom}
+use Rattle.path_extend.specs.Sums.{frontOf, sumsFrom}
 use Rattle.path_extend.specs.Extend.{recordsFit, followed, sumsAnswer, extendAnswer, startFront}
 use Rattle.path_extend.proofs.Assembled.{last-start}
 use Rattle.path.proofs.Counts.{last-record}

@@ -1,8 +1,7 @@
 -- The listed links joined, column by column, make the path with these links.
-use Prim.Native.Nat.{ℕ, zero, suc, _+_, _-_, _*_, _≤_, _<_}
-use native.Mathlib.Nat.{not-suc-le-zero, le-of-suc-le-suc}
+use Prim.Native.Nat.{ℕ, _+_, _-_, _*_, _≤_, _<_}
 use native.Mathlib.Omega.{arith}
-use mathlib.Core.Path.{_≡_, refl, sym, ap, ap₂, _∙_}
+use mathlib.Core.Path.{_≡_, sym, ap, ap₂, _∙_}
 use mathlib.Core.Bool.{true, false}
 use mathlib.Core.List.{List, [], _∷_}
 use lib.ListN.{length, getD, set, take, drop, length-set}
@@ -12,7 +11,7 @@ use Rattle.ieee.specs.Number.{+0}
 use Rattle.column.specs.Entries.{filled}
 use Rattle.column.specs.Records.{flat, recordAt}
 use Rattle.column.proofs.Filling.{length-filled}
-use Rattle.column.proofs.Bridge.{length-records, length-flat, records-flat, record-at}
+use Rattle.column.proofs.Bridge.{length-records, length-flat, records-flat}
 use Rattle.speed.specs.Column.{points, Leaves}
 use Rattle.lookup.specs.declared.path_res_coeff.PathResCoeff.{PathResCoeff}
 use Rattle.lookup.specs.Coeff.{triple, coeffs, noCoeff, standsAt, netOf}
@@ -28,7 +27,7 @@ use Rattle.path.specs.declared.link_point.LinkPoint.{LinkPoint}
 use Rattle.path.specs.Records.{Columns, columns, Path, linkPoints, pointAt, endPoint, lastCoeff, powerLimits, pathOf, columnsOf, recordOf}
 use Rattle.path.specs.Answers.{left, changed}
 use Rattle.path.specs.Sound.{sound}
-use Rattle.path.proofs.LinkPoints.{length-links, links-back}
+use Rattle.path.proofs.LinkPoints.{length-links}
 use Rattle.path.proofs.Numbers.{links-range}
 use Rattle.path.proofs.Clauses.{sound-within, some-link, some-records}
 use Rattle.path_speeds.specs.Limits.{setsOf, layLinks}
@@ -103,7 +102,7 @@ module _ (train : TrainParams) (t : LinkTable) (ns : List ℕ) (p : PathTpc) (c 
   abbrev pub firstGrades : List PathResCoeff
   firstGrades = startNet (t .links) (t .elevs) oldGrades ns
 
-  counts : (0 < p .«link_count») × (0 < p .«grade_count») × (0 < p .«curve_count») × (0 < p .«speed_count»)
+  pub counts : (0 < p .«link_count») × (0 < p .«grade_count») × (0 < p .«curve_count») × (0 < p .«speed_count»)
   counts =
       let w = sound-within p c known .0 in
       let r = some-records p c w in

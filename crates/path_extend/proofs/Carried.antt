@@ -1,12 +1,10 @@
 -- Question 8 carried from link to link: what one link answers, and the first that fails of those from position k on.
-use Prim.Native.Nat.{ℕ, zero, suc, _+_, _≤_, _<_}
-use native.Mathlib.Nat.{not-suc-le-zero, le-of-suc-le-suc}
+use Prim.Native.Nat.{ℕ, _+_, _≤_, _<_}
 use native.Mathlib.Numerals.{add-one}
-use mathlib.Core.Path.{_≡_, sym, ap, _∙_}
+use mathlib.Core.Path.{_≡_, ap}
 use mathlib.Core.Bool.{Bool, true, false, not, _&&_}
-use mathlib.Core.List.{List, [], _∷_}
+use mathlib.Core.List.{List}
 use lib.ListN.{length, getD, drop, drop-of-length-le}
-use lib.Seq.{drop-cons}
 use lib.Ieee as Ieee
 use lib.Ieee.{Float}
 use lib.Ieee.Scale.{finite}
@@ -17,7 +15,6 @@ use Rattle.link.specs.declared.network.Judged.the-variants.{Yes, NoAt}
 use Rattle.link.specs.Lists.{every, upFrom, firstNoFrom}
 use Rattle.link.specs.Train.{lengthOf}
 use Rattle.link.specs.Table.{LinkTable, sampleAt, powerAt, numbersOf}
-use Rattle.link.proofs.Known.{and-both}
 use Rattle.link.proofs.Judging.{said-no, said-yes}
 use Rattle.path_speeds.specs.Limits.{setsOf, finiteAt}
 use Rattle.path_stretches.specs.declared.walk.Reached.{Reached}

@@ -12,7 +12,8 @@ use Rattle.path.specs.Records.{Path, lastCoeff}
 use Rattle.path_stretches.specs.Stretches.{stretches}
 use Rattle.path_join.specs.Listed.{Rises, risesOf, lengthAt, samplesAt, gradeEnd}
 use Rattle.path_join.specs.Joined.{joinRecords, joinPowers, join, joinAll, joinedPoints, joinedRecords, joinedPowers}
-use Rattle.path_extend.proofs.Ending.{stands-after, grades-end}
+use Rattle.path_stretches.proofs.Ended.{stands-after}
+use Rattle.path_extend.proofs.Ending.{stretches-end}
 
 -- where the grades end once a link is joined
 pub base-next : (train : TrainParams) (r : Rises) (headings : List Float) (gs : List PathResCoeff) (n : ℕ) → standsAt (lastCoeff (joinRecords false train r headings (standsAt (lastCoeff gs)) gs n)) ≡ gradeEnd r (standsAt (lastCoeff gs)) n
@@ -21,7 +22,7 @@ base-next train r headings gs n =
     let base = standsAt (lastCoeff gs) in
     let net = netOf (lastCoeff gs) in
     stands-after gs (stretches false train base net (lengthAt (r .lengths) n) (samplesAt false r headings n))
-    ∙ grades-end train base net (lengthAt (r .lengths) n) (samplesAt false r headings n)
+    ∙ stretches-end false train base net (lengthAt (r .lengths) n) (samplesAt false r headings n)
 
 module _ (train : TrainParams) (t : LinkTable) where
   abbrev base : Path → Float

@@ -1,24 +1,18 @@
 -- The front that question 8 carries from link to link is that of the path with the links joined.
 use Prim.Native.Nat.{ℕ, _-_}
-use native.Mathlib.Omega.{arith}
-use mathlib.Core.Path.{_≡_, refl, ap, _∙_}
-use mathlib.Core.List.{List, [], _∷_, _++_}
-use lib.ListN.{length, getD, set, length-append}
-use lib.Seq.{getD-append-seam}
+use mathlib.Core.Path.{_≡_, ap}
+use mathlib.Core.List.{List}
+use lib.ListN.{length, set}
 use lib.Ieee.{Float}
-use Rattle.ieee.specs.Number.{+0, _⊕_}
-use Rattle.lookup.specs.declared.path_res_coeff.PathResCoeff.{PathResCoeff}
-use Rattle.lookup.specs.Coeff.{resCoeff, noCoeff, standsAt, netOf}
+use Rattle.ieee.specs.Number.{_⊕_}
 use Rattle.link.specs.declared.train_params.TrainParams.{TrainParams}
 use Rattle.link.specs.Table.{LinkTable, numbersOf}
 use Rattle.path.specs.declared.link_point.LinkPoint.{LinkPoint}
-use Rattle.path.specs.Records.{Path, linkPoint, offsetOf, noLinkPoint, endPoint, lastCoeff}
-use Rattle.path_stretches.specs.declared.stretch.Stretch.{Stretch}
-use Rattle.path_stretches.specs.Stretches.{withCoefficient, layStretch, layStretches, offsetAfter, netAfter}
+use Rattle.path.specs.Records.{Path, linkPoint, offsetOf, noLinkPoint, endPoint}
 use Rattle.path_join.specs.Listed.{lengthAt, gradesIn, curvesIn, powersIn}
 use Rattle.path_join.specs.Joined.{joinPoint, joinRecords, join}
 use Rattle.path_extend.specs.Sums.{front, frontOf, gradesAt, curvesAt, frontAfter}
-use Rattle.path_extend.proofs.Ending.{last-snoc, stands-after, net-after}
+use Rattle.path_stretches.proofs.Ended.{last-snoc, stands-after, net-after}
 
 last-joined : (links : List ℕ) (lengths : List Float) (ps : List LinkPoint) (n : ℕ) → offsetOf (endPoint (joinPoint links lengths ps n)) ≡ lengthAt lengths n ⊕ offsetOf (endPoint ps)
 unfolding joinPoint

@@ -20,7 +20,7 @@ use Rattle.path.specs.Sound.{total}
 use Rattle.path_speeds.specs.Limits.{SpeedSets, setsOf, layAll, layingAt, layLinks, fewAt, countAt, pointFew, pointCount}
 use Rattle.path_join.specs.Listed.{lengthAt, gradesIn, curvesIn, powersIn, sumOf}
 use Rattle.path_join.specs.Joined.{joinPoint, join, joinAll, joinedPoints}
-use Rattle.path_extend.proofs.Ending.{last-snoc}
+use Rattle.path_stretches.proofs.Ended.{last-snoc}
 
 -- ---- link points behind an end point e
 

@@ -19,14 +19,14 @@ use Rattle.path.specs.declared.path_tpc.PathTpc.{PathTpc}
 use Rattle.path.specs.declared.link_point.LinkPoint.{LinkPoint}
 use Rattle.path.specs.Records.{Columns, linkPoints, pointAt, endPoint, powerLimits, pathOf, columnsOf}
 use Rattle.path.specs.Sound.{sound, total}
-use Rattle.path.proofs.Clauses.{sound-within, some-link, some-records, room}
+use Rattle.path.proofs.Clauses.{sound-within, room}
 use Rattle.path_speeds.specs.Limits.{setsOf, countAt, pointFew, pointCount}
 use Rattle.path_stretches.specs.Powers.{HoldsPowers}
 use Rattle.path_join.specs.Listed.{recordsIn, powersIn, sumOf}
 use Rattle.path_join.specs.Joined.{HoldsPoints}
 use Rattle.path_extend.specs.Extend.{Ready}
 use Rattle.path_extend.proofs.NewPoints.{newPoints, points-few, points-counted}
-use Rattle.path_extend.proofs.Assembled.{oldPoints, allPoints, new-range, own-numbers}
+use Rattle.path_extend.proofs.Assembled.{oldPoints, allPoints, new-range, own-numbers, counts}
 use Rattle.path_extend.proofs.Asked.{Fit, fit-all}
 
 module _ (train : TrainParams) (t : LinkTable) (ns : List ℕ) (p : PathTpc) (c : Columns) (known : sound p c ≡ true) (ready : Ready train t ns p c) where
@@ -34,10 +34,7 @@ module _ (train : TrainParams) (t : LinkTable) (ns : List ℕ) (p : PathTpc) (c 
   fits = fit-all train t ns p c (ready .fit)
 
   pub some : (0 < p .«link_count») × (0 < p .«grade_count») × (0 < p .«curve_count») × (0 < p .«speed_count»)
-  some =
-      let w = sound-within p c known .0 in
-      let r = some-records p c w in
-      (some-link p c w, r .0, r .1, r .2)
+  some = counts train t ns p c known (ready .own)
 
   pub points-fit : (p .«link_count» + length ns ≤ 1025) × (p .«link_count» + length ns ≤ length (c .offsets)) × (4 * (p .«link_count» + length ns) ≤ length (c .numbers))
   points-fit = (fits .links, fits .offsets, fits .numbers)

@@ -1,5 +1,5 @@
 -- Link points of the listed links: one more in the two columns, and those that are left.
-use Prim.Native.Nat.{ℕ, zero, suc, _+_, _-_, _*_, _≤_, _<_}
+use Prim.Native.Nat.{ℕ, _+_, _-_, _*_, _≤_, _<_}
 use native.Mathlib.Nat.{add-zero}
 use native.Mathlib.Omega.{arith}
 use mathlib.Core.Path.{_≡_, refl, sym, ap, ap₂, _∙_}
@@ -18,7 +18,6 @@ use Rattle.path.specs.declared.link_point.LinkPoint.{LinkPoint}
 use Rattle.path.specs.Records.{linkPoint, offsetOf, fourOf, linkPoints, noLinkPoint, endPoint}
 use Rattle.path.proofs.LinkPoints.{length-links, end-at, links-back}
 use Rattle.path_stretches.specs.Stretches.{recordCount}
-use Rattle.path_stretches.proofs.Steps.{count-some}
 use Rattle.path_join.specs.Joined.{joinPoint, joinedPoints, HoldsPoints}
 use Rattle.column.proofs.Filling.{push-entry, set-map}
 
@@ -64,11 +63,6 @@ module _ {os os′ : List Float} {ns ns′ ns″ : List ℕ} {ps : List LinkPoin
             ∙ ap₂ (λ (k : ℕ) (l : List Four). filled 0 k (flat four l)) (sym nn) (sym (map-append fourOf rs (q ∷ [])));
       }
 
--- a link's records are few enough for their count's type (it belongs in path_stretches' Steps)
-pub count-below : (n b : ℕ) → n < b → 1 < b → recordCount n < b
-count-below zero b h k = k
-count-below (suc n) b h k = omega (arith, count-some (suc n) (omega arith))
-
 -- by what the code reads of the link
 abbrev joinedWith : List LinkPoint → Float → Float → ℕ → ℕ → LinkNumbers → List LinkPoint
 joinedWith ps base o g k l =
@@ -103,7 +97,7 @@ point-joined links lengths os ns n i {l = l} {base} {o} {g} {k} some place room 
 
 -- ---- read back
 module _ {os : List Float} {ns : List ℕ} {ps : List LinkPoint} (h : HoldsPoints os ns ps) where
-  -- what two columns hold is what is read from them (it belongs beside `HoldsPoints`)
+  -- what two columns hold is what is read from them
   pub points-held : linkPoints (length ps) os ns ≡ ps
   unfolding filled
   points-held = ap₂ (λ (a : List Float) (b : List ℕ). linkPoints (length ps) a b) (h .offsets) (h .numbers) ∙ links-back ps _ _

@@ -17,7 +17,7 @@ use Rattle.path_join.specs.Listed.{Rises, powersIn, sumOf, gradeEnd}
 use Rattle.path_join.specs.Joined.{joinPowers, joinedPowers, PowersLaid}
 use Rattle.path_join.proofs.Left.{sum-next}
 
--- what two columns hold is what is read from them (it belongs beside `HoldsPowers`)
+-- what two columns hold is what is read from them
 powers-held : {ws : List Float} {ds : List ℕ} {ls : List PowerLimit} → HoldsPowers ws ds ls → powerLimits (length ls) ws ds ≡ ls
 unfolding filled
 powers-held {ls = ls} h = ap₂ (λ (a : List Float) (b : List ℕ). powerLimits (length ls) a b) (h .powers) (h .districts) ∙ powers-back ls _ _

@@ -1,49 +1,29 @@
 -- Grades and curves of the listed links: those of one link, and those that are left.
-use Prim.Native.Nat.{ℕ, suc, _+_, _-_, _*_, _≤_, _<_}
+use Prim.Native.Nat.{ℕ, _+_, _*_, _≤_, _<_}
 use native.Mathlib.Omega.{arith}
-use mathlib.Core.Path.{_≡_, refl, sym, ap, ap₂, _∙_}
+use mathlib.Core.Path.{_≡_, sym, ap, ap₂, _∙_}
 use mathlib.Core.Bool.{Bool, true, false}
 use mathlib.Core.List.{List, [], _∷_}
-use lib.ListN.{length, set, length-append, length-set}
+use lib.ListN.{length}
 use lib.Ieee.{Float}
 use Rattle.ieee.specs.Number.{+0}
 use Rattle.column.specs.Entries.{filled}
 use Rattle.column.specs.Records.{flat}
 use Rattle.column.proofs.Bridge.{length-records, records-flat}
 use Rattle.lookup.specs.declared.path_res_coeff.PathResCoeff.{PathResCoeff}
-use Rattle.lookup.specs.Coeff.{triple, coeffs, resCoeff, netOf}
+use Rattle.lookup.specs.Coeff.{triple, coeffs, netOf}
 use Rattle.lookup.proofs.Coeffs.{triple-lawful}
 use Rattle.link.specs.declared.network.LinkNumbers.{LinkNumbers}
 use Rattle.link.specs.declared.train_params.TrainParams.{TrainParams}
 use Rattle.link.specs.Lists.{upFrom}
-use Rattle.link.specs.Table.{Sample, sampleAt, numbersOf}
+use Rattle.link.specs.Table.{sampleAt, numbersOf}
 use Rattle.path.specs.Records.{lastCoeff}
-use Rattle.path_stretches.specs.declared.stretch.Stretch.{Stretch}
-use Rattle.path_stretches.specs.Stretches.{stretchesFrom, stretches, recordCount, stretchCount, withCoefficient, layStretch, layStretches, Laid}
-use Rattle.path_stretches.proofs.Steps.{count-some, count-range}
+use Rattle.path_stretches.specs.Stretches.{stretches, recordCount, stretchCount, layStretches, Laid}
+use Rattle.path_stretches.proofs.Steps.{count-range}
 use Rattle.path_join.specs.Listed.{Rises, lengthAt, samplesAt, recordsIn, sumOf, gradeEnd}
 use Rattle.path_join.specs.Joined.{joinRecords, joinedRecords}
 use Rattle.path_join.proofs.Left.{sum-next}
-
--- ---- how many there are
-
--- stretches laid on records (this and the next two belong in path_stretches' Laying and Steps)
-length-laid : (gs : List PathResCoeff) (ss : List Stretch) → length (layStretches gs ss) ≡ length gs + length ss
-unfolding layStretches
-length-laid gs [] = omega arith
-length-laid gs (s ∷ ss) =
-    let g = withCoefficient s (lastCoeff gs) in
-    omega (arith, length-laid (layStretch gs s) ss, length-append (set gs (length gs - 1) g) (resCoeff (s .offset .0) +0 (s .net .0) ∷ []), length-set gs (length gs - 1) g)
-
-length-from : (step : Float → Sample → Sample → Stretch) (net : Float) (prior : Sample) (ss : List Sample) → length (stretchesFrom step net prior ss) ≡ length ss
-unfolding stretchesFrom
-length-from step net prior [] = refl
-length-from step net prior (s ∷ ss) = ap suc (length-from step (step net prior s .net .0) s ss)
-
-length-stretches : (curves : Bool) (train : TrainParams) (base net o : Float) (ss : List Sample) → length (stretches curves train base net o ss) ≡ stretchCount ss
-unfolding stretches
-length-stretches curves train base net o [] = refl
-length-stretches curves train base net o (s ∷ ss) = length-from _ net s ss ∙ omega (arith, count-some (suc (length ss)) (omega arith))
+use Rattle.path_stretches.proofs.Ended.{length-laid, length-stretches}
 
 -- ---- of one link
 module _ (curves : Bool) (train : TrainParams) (r : Rises) (headings : List Float) (base : Float) (rs : List PathResCoeff) (i : ℕ) where
@@ -97,7 +77,7 @@ module _ (train : TrainParams) (r : Rises) (headings : List Float) (base : Float
 
 -- ---- those that are left
 
--- what is left is read back (it belongs beside `Laid`)
+-- what is left is read back
 laid-coeffs : {col : List Float} {n size : ℕ} {gs : List PathResCoeff} → Laid col n size gs → coeffs n col ≡ gs
 unfolding filled
 laid-coeffs {gs = gs} h = ap₂ (λ (k : ℕ) (c : List Float). coeffs k c) (h .count) (h .is) ∙ records-flat triple triple-lawful gs _

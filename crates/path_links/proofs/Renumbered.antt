@@ -45,7 +45,7 @@ unfolding renumberedFrom
 same-offsets-from last new p [] = refl
 same-offsets-from last new p (q ∷ qs) = ap (λ (os : List Float). offsetOf p ∷ os) (same-offsets-from (newNumber new (numberOf p)) new q qs)
 
-same-offsets : (new : List ℕ) (ps : List LinkPoint) → map offsetOf (renumbered new ps) ≡ map offsetOf ps
+pub same-offsets : (new : List ℕ) (ps : List LinkPoint) → map offsetOf (renumbered new ps) ≡ map offsetOf ps
 unfolding renumbered
 same-offsets new [] = refl
 same-offsets new (p ∷ ps) = same-offsets-from (numberOf p) new p ps

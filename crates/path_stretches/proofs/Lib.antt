@@ -3,3 +3,4 @@ pub mod Curved
 pub mod Steps
 pub mod Laying
 pub mod Pushed
+pub mod Ended

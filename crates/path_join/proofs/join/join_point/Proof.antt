@@ -1,8 +1,9 @@
 -- `join_point`: the link by its numbers, one point more in the two columns.
+use Rattle.path_stretches.proofs.Ended.{count-below}
 use Prim.Native.Nat.{_^_}
 use native.Mathlib.Omega.{arith}
 use mathlib.Core.Path.{_∙_}
-use Rattle.path_join.proofs.OnPoints.{count-below, point-joined}
+use Rattle.path_join.proofs.OnPoints.{point-joined}
 use borrow.Author.Needs.{needs}
 use Rattle.path_join.proofs.join.join_point.Statement.{statement}
 use Rattle.path_join.proofs.join.join_point.Tie as tie
