@@ -1,9 +1,9 @@
--- Demand 3's claims of a book: they stand at `new`, each call that was rightly done keeps them, and so they stand after any list of calls.
+-- Demand 3's claims of a book: they stand at `new`, and each call that was rightly done keeps them.
 use native.Mathlib.Omega.{arith}
 use mathlib.Core.Path.{_≡_, refl}
 use mathlib.Core.Logic.{inl}
-use mathlib.Core.Bool.{Bool, true, false, cond}
-use mathlib.Core.List.{List, [], _∷_, List·Memᴰ·not-nil}
+use mathlib.Core.Bool.{true, false}
+use mathlib.Core.List.{List·Memᴰ·not-nil}
 use lib.Dec.{T}
 use lib.Ieee as Ieee
 use lib.Ieee.{Float, nan, binary64}
@@ -18,9 +18,9 @@ use Rattle.speed_laws.proofs.Changes.{passes}
 use Rattle.link.specs.declared.train_params.TrainParams.{TrainParams}
 use Rattle.link.specs.Train.{topSpeed}
 use Rattle.path.specs.Sound.{trainFinite}
-use Rattle.book.specs.Book.{Call, Told, Book, newBook, enterCall, enter, bookFrom, bookOf}
+use Rattle.book.specs.Book.{Call, Book, newBook, enterCall}
 use Rattle.book.specs.Book.Call.{extend, clear, reindex, finish}
-use Rattle.book.specs.Good.{GoodCall, GoodFrom}
+use Rattle.book.specs.Good.{GoodCall}
 use Rattle.book.specs.Claims.{PostedRight, Offset, Claims}
 use Rattle.book.proofs.FiniteTrain.{train-good}
 use Rattle.book.proofs.Joined.{links-claims}
@@ -59,21 +59,3 @@ call-claims train fin (extend t ns) b c g = links-claims train fin t b ns c g
 call-claims train fin (clear x) b c g = drop-claims train x b c g
 call-claims train fin (reindex new) b c g = c
 call-claims train fin finish b c g = c
-
-module _ (train : TrainParams) (fin : trainFinite train ≡ true) where
-  told-claims : (told : Told) (b : Book) → Claims train b → (told .wasDone ≡ true → GoodCall train (told .call) b) → Claims train (enter train told b)
-  unfolding enter
-  told-claims told b c g = pick (told .wasDone) g
-    where
-      pick : (done : Bool) → (done ≡ true → GoodCall train (told .call) b) → Claims train (cond done (enterCall train (told .call) b) b)
-      pick true h = call-claims train fin (told .call) b c (h refl)
-      pick false h = c
-
-  from-claims : (told : List Told) (b : Book) → Claims train b → GoodFrom train told b → Claims train (bookFrom train told b)
-  unfolding bookFrom
-  from-claims [] b c g = c
-  from-claims (first ∷ rest) b c g = from-claims rest (enter train first b) (told-claims first b c (g .0)) (g .1)
-
--- The train passed question 1, and each call that was done had passed its questions on the book that it met: the claims stand of the book after the calls.
-pub claims : (train : TrainParams) → trainFinite train ≡ true → (told : List Told) → GoodFrom train told (newBook train) → Claims train (bookOf train told)
-claims train fin told g = from-claims train fin told (newBook train) (new-claims train fin) g

@@ -1,7 +1,7 @@
 -- What document 01's questions have settled of the calls that were done, said of the book that each met. Definitions only.
 use Prim.Native.Nat.{ℕ, _≤_}
 use mathlib.Core.Path.{_≡_}
-use mathlib.Core.Bool.{Bool, true}
+use mathlib.Core.Bool.{true}
 use mathlib.Core.List.{List, [], _∷_}
 use lib.ListN.{length}
 use lib.Ieee as Ieee
@@ -13,7 +13,7 @@ use Rattle.link.specs.Train.{lengthOf}
 use Rattle.link.specs.Table.{LinkTable, linkAt}
 use Rattle.link.specs.Questions.{wellFormed}
 use Rattle.path_speeds.specs.Limits.{setsOf, finiteAt}
-use Rattle.book.specs.Book.{Call, Told, Book, newBook, firstEnd, lastEnd, enterLink, enter}
+use Rattle.book.specs.Book.{Call, Book, firstEnd, lastEnd, enterLink}
 use Rattle.book.specs.Book.Call.{extend, clear, reindex, finish}
 
 -- a link that is joined at base
@@ -41,8 +41,3 @@ GoodCall train (extend t ns) b = GoodLinks train t b ns
 GoodCall train (clear x) b = GoodClear x b
 GoodCall train (reindex new) b = Unit
 GoodCall train finish b = Unit
-
--- each call that was done is so, on the book that it met
-abbrev pub GoodFrom : TrainParams → List Told → Book → Type 0
-GoodFrom train [] b = Unit
-GoodFrom train (told ∷ rest) b = (told .wasDone ≡ true → GoodCall train (told .call) b) × GoodFrom train rest (enter train told b)
