@@ -15,7 +15,7 @@ use Rattle.ieee.proofs.Order.{of-true, of-false, lt-not-le}
 use Rattle.ieee.proofs.Round.{split}
 use Rattle.lookup.specs.declared.path_res_coeff.PathResCoeff.{PathResCoeff}
 use Rattle.lookup.specs.Coeff.{noCoeff, standsAt, offsetAt}
-use Rattle.lookup.specs.Search.{countBefore, forwards, backwards}
+use Rattle.lookup.specs.Search.{countBefore, forwards, lastNotAfter}
 
 -- ---- how many records at the front are before x
 count-le : (x : Float) (rs : List PathResCoeff) → countBefore x rs ≤ length rs
@@ -99,36 +99,36 @@ module _ (x : Float) (hint : ℕ) (rs : List PathResCoeff) where
         subst (λ (y : Float). T (not (Ieee.lt y x))) (after n ∙ ap (offsetAt rs) e) (count-stop x (drop (suc hint) rs) short)
 
 -- ---- backwards
-module _ (x : Float) (rs : List PathResCoeff) where
+module _ (at : ℕ → Float) (x : Float) where
   -- never forwards
-  pub backward-to : (hint : ℕ) → backwards x hint rs ≤ hint
-  unfolding backwards
+  pub backward-to : (hint : ℕ) → lastNotAfter at x hint ≤ hint
+  unfolding lastNotAfter
   backward-to zero = omega arith
-  backward-to (suc i) = pick (Ieee.lt x (offsetAt rs (suc i))) (backward-to i)
+  backward-to (suc i) = pick (Ieee.lt x (at (suc i))) (backward-to i)
     where
-      pick : (b : Bool) → backwards x i rs ≤ i → cond b (backwards x i rs) (suc i) ≤ suc i
+      pick : (b : Bool) → lastNotAfter at x i ≤ i → cond b (lastNotAfter at x i) (suc i) ≤ suc i
       pick true h = omega arith
       pick false h = omega arith
 
-  -- every record passed is after x
-  pub backward-passed : (hint k : ℕ) → backwards x hint rs < k → k ≤ hint → T (Ieee.lt x (offsetAt rs k))
-  unfolding backwards
+  -- every offset passed is after x
+  pub backward-passed : (hint k : ℕ) → lastNotAfter at x hint < k → k ≤ hint → T (Ieee.lt x (at k))
+  unfolding lastNotAfter
   backward-passed zero k h g = absurd (omega arith)
-  backward-passed (suc i) k h g = pick (Ieee.lt x (offsetAt rs (suc i))) refl h (backward-passed i k)
+  backward-passed (suc i) k h g = pick (Ieee.lt x (at (suc i))) refl h (backward-passed i k)
     where
-      last : (k ≡ suc i) → T (Ieee.lt x (offsetAt rs (suc i))) → T (Ieee.lt x (offsetAt rs k))
-      last e t = subst (λ (j : ℕ). T (Ieee.lt x (offsetAt rs j))) (sym e) t
+      last : (k ≡ suc i) → T (Ieee.lt x (at (suc i))) → T (Ieee.lt x (at k))
+      last e t = subst (λ (j : ℕ). T (Ieee.lt x (at j))) (sym e) t
 
-      pick : (b : Bool) → Ieee.lt x (offsetAt rs (suc i)) ≡ b → cond b (backwards x i rs) (suc i) < k → (backwards x i rs < k → k ≤ i → T (Ieee.lt x (offsetAt rs k))) → T (Ieee.lt x (offsetAt rs k))
+      pick : (b : Bool) → Ieee.lt x (at (suc i)) ≡ b → cond b (lastNotAfter at x i) (suc i) < k → (lastNotAfter at x i < k → k ≤ i → T (Ieee.lt x (at k))) → T (Ieee.lt x (at k))
       pick true e h more = elim (split k (suc i)) [ inl l ↦ more h (le-of-suc-le-suc l) | inr l ↦ last (omega arith) (of-true e) ]
       pick false e h more = absurd (omega arith)
 
-  -- the answer is not after x, where the first record is not
-  pub backward-stops : (hint : ℕ) → T (not (Ieee.lt x (offsetAt rs 0))) → T (not (Ieee.lt x (offsetAt rs (backwards x hint rs))))
-  unfolding backwards
+  -- the answer is not after x, where the first is not
+  pub backward-stops : (hint : ℕ) → T (not (Ieee.lt x (at 0))) → T (not (Ieee.lt x (at (lastNotAfter at x hint))))
+  unfolding lastNotAfter
   backward-stops zero f = f
-  backward-stops (suc i) f = pick (Ieee.lt x (offsetAt rs (suc i))) refl (backward-stops i f)
+  backward-stops (suc i) f = pick (Ieee.lt x (at (suc i))) refl (backward-stops i f)
     where
-      pick : (b : Bool) → Ieee.lt x (offsetAt rs (suc i)) ≡ b → T (not (Ieee.lt x (offsetAt rs (backwards x i rs)))) → T (not (Ieee.lt x (offsetAt rs (cond b (backwards x i rs) (suc i)))))
+      pick : (b : Bool) → Ieee.lt x (at (suc i)) ≡ b → T (not (Ieee.lt x (at (lastNotAfter at x i)))) → T (not (Ieee.lt x (at (cond b (lastNotAfter at x i) (suc i)))))
       pick true e more = more
       pick false e more = of-false e

@@ -16,7 +16,7 @@ use Rattle.lookup.specs.declared.lin_search_hint.Dir.{Dir}
 use Rattle.lookup.specs.declared.lin_search_hint.Dir.the-variants.{Unk, Fwd, Bwd}
 use Rattle.lookup.specs.declared.path_res_coeff.PathResCoeff.{PathResCoeff}
 use Rattle.lookup.specs.Coeff.{noCoeff, offsetAt, coeffs, coeffsFinite}
-use Rattle.lookup.specs.Search.{countBefore, forwards, backwards, searched, inRange, hintAllowed}
+use Rattle.lookup.specs.Search.{countBefore, forwards, lastNotAfter, backwards, searched, inRange, hintAllowed}
 use Rattle.lookup.specs.CalcIdx.{doneAt, refused, findIn, listSound, calcIdx}
 
 module _ (x : Float) (rs : List PathResCoeff) (i : ℕ) where
@@ -50,23 +50,23 @@ module _ (x : Float) (rs : List PathResCoeff) (i : ℕ) where
       let k : length rs ≤ suc i = omega arith in
       rw (drop-of-length-le rs k) (add-zero i)
 
--- the record is after x: one record back
-pub backward-pass : (x : Float) (rs : List PathResCoeff) (i : ℕ) → 0 < i → Ieee.lt x (offsetAt rs i) ≡ true → backwards x i rs ≡ backwards x (i - 1) rs
-unfolding backwards
-backward-pass x rs zero h t = absurd (not-suc-le-zero h)
-backward-pass x rs (suc i) h t = let q : suc i - 1 ≡ i = omega arith in rw (t, q)
+-- the offset here is after x: one place back
+pub backward-pass : (at : ℕ → Float) (x : Float) (i : ℕ) → 0 < i → Ieee.lt x (at i) ≡ true → lastNotAfter at x i ≡ lastNotAfter at x (i - 1)
+unfolding lastNotAfter
+backward-pass at x zero h t = absurd (not-suc-le-zero h)
+backward-pass at x (suc i) h t = let q : suc i - 1 ≡ i = omega arith in rw (t, q)
 
 -- it is not
-pub backward-stop : (x : Float) (rs : List PathResCoeff) (i : ℕ) → Ieee.lt x (offsetAt rs i) ≡ false → backwards x i rs ≡ i
-unfolding backwards
-backward-stop x rs zero t = refl
-backward-stop x rs (suc i) t = rw t
+pub backward-stop : (at : ℕ → Float) (x : Float) (i : ℕ) → Ieee.lt x (at i) ≡ false → lastNotAfter at x i ≡ i
+unfolding lastNotAfter
+backward-stop at x zero t = refl
+backward-stop at x (suc i) t = rw t
 
--- the first record
-pub backward-first : (x : Float) (rs : List PathResCoeff) (i : ℕ) → i ≤ 0 → backwards x i rs ≡ i
-unfolding backwards
-backward-first x rs zero h = refl
-backward-first x rs (suc i) h = absurd (not-suc-le-zero h)
+-- the first place
+pub backward-first : (at : ℕ → Float) (x : Float) (i : ℕ) → i ≤ 0 → lastNotAfter at x i ≡ i
+unfolding lastNotAfter
+backward-first at x zero h = refl
+backward-first at x (suc i) h = absurd (not-suc-le-zero h)
 
 -- ---- questions 10 and 11, and the index, of n records
 module _ (x : Float) (hint n : ℕ) (rs : List PathResCoeff) (size : length rs ≡ n) where

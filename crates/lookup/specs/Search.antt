@@ -21,13 +21,17 @@ unfoldable pub forwards : Float → ℕ → List PathResCoeff → ℕ
 unfolding countBefore
 forwards x hint rs = hint + countBefore x (drop (suc hint) rs)
 
+-- the last of the places 0 to i where an offset is not after x, and 0 where none is
+unfoldable pub lastNotAfter : (ℕ → Float) → Float → ℕ → ℕ
+lastNotAfter at x zero = zero
+lastNotAfter at x (suc i) = cond (Ieee.lt x (at (suc i))) (lastNotAfter at x i) (suc i)
+
 -- "Bwd: the last record up to the hint that is not after the offset."
-unfoldable pub backwards : Float → ℕ → List PathResCoeff → ℕ
-backwards x zero rs = zero
-backwards x (suc i) rs = cond (Ieee.lt x (offsetAt rs (suc i))) (backwards x i rs) (suc i)
+abbrev pub backwards : Float → ℕ → List PathResCoeff → ℕ
+backwards x hint rs = lastNotAfter (offsetAt rs) x hint
 
 unfoldable pub searched : Dir → Float → ℕ → List PathResCoeff → ℕ
-unfolding forwards backwards
+unfolding forwards lastNotAfter
 searched Unk x hint rs = forwards x hint rs
 searched Fwd x hint rs = forwards x hint rs
 searched Bwd x hint rs = backwards x hint rs

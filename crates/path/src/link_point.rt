@@ -5,6 +5,7 @@ ghost use Prim.Native.Nat.{_≤_};
 ghost use Rattle.path.specs.Records.{linkPoints, pointAt};
 ghost use Rattle.path.specs.Sound.{totals, countOf};
 
+#[repr(C)]
 pub struct LinkPoint {
     pub offset: Length,
     pub grade_count: usize,

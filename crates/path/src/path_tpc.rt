@@ -1,4 +1,5 @@
 // The path's record: how many records its columns hold, and whether it is finished.
+#[repr(C)]
 pub struct PathTpc {
     pub link_count: usize,
     pub grade_count: usize,
@@ -9,12 +10,14 @@ pub struct PathTpc {
 }
 
 // Done is 0, place 0; otherwise the number of the question answered with no, and its place.
+#[repr(C)]
 pub struct Answer {
     pub number: u32,
     pub place: usize,
 }
 
 // What a call that may change a path answers, and the path's record after it.
+#[repr(C)]
 pub struct PathAnswer {
     pub answer: Answer,
     pub path: PathTpc,

@@ -17,22 +17,34 @@ use Rattle.path.specs.Sound.{sound, pathAnswer, total, totals, countOf}
 use Rattle.path.proofs.LinkPoints.{link-at}
 use Rattle.path.proofs.InTurn.{turn-no, turn-yes, turn-done, turn-place, first-done, last-one, ask-place, judged-done, path-place}
 use Rattle.path.proofs.Clauses.{sound-within, sound-fewer, bounds, room}
-use Rattle.path_links.specs.LinkRecords.{Part, partAnswer, partOf, handedBack, linkGradesOf, linkCurvesOf}
+use Rattle.path_links.specs.declared.link_records.Range.{Range}
+use Rattle.path_links.specs.declared.link_records.RangeAnswer.{RangeAnswer}
+use Rattle.path_links.specs.LinkRecords.{Part, partAnswer, rangeOf, linkRangeOf, partOf, handedBack, linkGradesOf, linkCurvesOf}
 use Rattle.path.proofs.Numbers.{take-links}
 use Rattle.path.proofs.Counts.{links-fewer, links-one-more, count-of-totals}
 
 -- ---- the records of link k, located by the points before it
-part-of-links :
-    (count : LinkPoint → ℕ) (os : List Float) (ns : List ℕ) (col : List Float) (k n : ℕ)
+range-of-links :
+    (count : LinkPoint → ℕ) (os : List Float) (ns : List ℕ) (k n : ℕ)
     → k < n
-    → partOf count k (linkPoints n os ns) col ≡ take (3 * count (pointAt os ns k)) (drop (3 * total count (linkPoints k os ns)) col)
-unfolding partOf
-part-of-links count os ns col k n h =
-    ap₂ (λ (qs : List LinkPoint) (p : LinkPoint). take (3 * count p) (drop (3 * total count qs) col)) (take-links k n os ns (omega arith)) (link-at n os ns k noLinkPoint h)
+    → rangeOf count k (linkPoints n os ns) ≡ record { from = 3 * total count (linkPoints k os ns); len = 3 * count (pointAt os ns k) }
+unfolding rangeOf
+range-of-links count os ns k n h =
+    ap₂ (λ (qs : List LinkPoint) (p : LinkPoint). record { from = 3 * total count qs; len = 3 * count p }) (take-links k n os ns (omega arith)) (link-at n os ns k noLinkPoint h)
 
--- the part as the code takes it: `first` records come before it, and it has m
-module _ (curves : Bool) (os : List Float) (ns : List ℕ) (k : ℕ) {before own : LinkPoint} {first m : ℕ}
-    (e₁ : before ≡ totals (linkPoints k os ns)) (e₂ : own ≡ pointAt os ns k) (e₃ : first ≡ countOf curves before) (e₄ : m ≡ countOf curves own) where
+-- it is the same whatever link points follow
+range-same : (count : LinkPoint → ℕ) (os : List Float) (ns : List ℕ) (k n : ℕ) → k < n → rangeOf count k (linkPoints (k + 1) os ns) ≡ rangeOf count k (linkPoints n os ns)
+range-same count os ns k n h = range-of-links count os ns k (k + 1) (omega arith) ∙ sym (range-of-links count os ns k n h)
+
+-- the range ends where the records of the next link begin
+pub range-end : (count : LinkPoint → ℕ) (os : List Float) (ns : List ℕ) (k : ℕ) {r : Range} → r ≡ rangeOf count k (linkPoints (k + 1) os ns) → r .from + r .len ≡ 3 * total count (linkPoints (k + 1) os ns)
+range-end count os ns k e =
+    let f = e ∙ range-of-links count os ns k (k + 1) (omega arith) in
+    omega (arith, ap (λ (r : Range). r .from) f, ap (λ (r : Range). r .len) f, links-one-more count os ns k)
+
+-- the range as the code finds it: `first` records come before it, and it has m
+module _ (curves : Bool) (os : List Float) (ns : List ℕ) (k : ℕ) {point own : LinkPoint} {first m : ℕ}
+    (e₁ : point ≡ totals (linkPoints k os ns)) (e₂ : own ≡ pointAt os ns k) (e₃ : first ≡ countOf curves point) (e₄ : m ≡ countOf curves own) where
   first-is : first ≡ total (countOf curves) (linkPoints k os ns)
   first-is = e₃ ∙ ap (countOf curves) e₁ ∙ count-of-totals curves (linkPoints k os ns)
 
@@ -42,12 +54,18 @@ module _ (curves : Bool) (os : List Float) (ns : List ℕ) (k : ℕ) {before own
   pub located : first + m ≡ total (countOf curves) (linkPoints (k + 1) os ns)
   located = ap₂ _+_ first-is many-are ∙ sym (links-one-more (countOf curves) os ns k)
 
-  pub part-is : (col : List Float) → take (3 * first + 3 * m - 3 * first) (drop (3 * first) col) ≡ partOf (countOf curves) k (linkPoints (k + 1) os ns) col
-  part-is col =
-      let d : 3 * first + 3 * m - 3 * first ≡ 3 * m = omega arith in
-      ap (λ (n : ℕ). take n (drop (3 * first) col)) d
-      ∙ ap₂ (λ (a b : ℕ). take (3 * a) (drop (3 * b) col)) many-are first-is
-      ∙ sym (part-of-links (countOf curves) os ns col k (k + 1) (omega arith))
+  pub range-is : record { from = 3 * first; len = 3 * m } ≡ rangeOf (countOf curves) k (linkPoints (k + 1) os ns)
+  range-is = ap₂ (λ (a b : ℕ). record { from = 3 * a; len = 3 * b }) first-is many-are ∙ sym (range-of-links (countOf curves) os ns k (k + 1) (omega arith))
+
+-- the part as the code takes it
+pub part-is :
+    (count : LinkPoint → ℕ) (os : List Float) (ns : List ℕ) (k : ℕ) (col : List Float) {r : Range}
+    → r ≡ rangeOf count k (linkPoints (k + 1) os ns)
+    → take (r .from + r .len - r .from) (drop (r .from) col) ≡ partOf count k (linkPoints (k + 1) os ns) col
+unfolding partOf
+part-is count os ns k col {r} e =
+    let d : r .from + r .len - r .from ≡ r .len = omega arith in
+    ap (λ (n : ℕ). take n (drop (r .from) col)) d ∙ ap (λ (q : Range). take (q .len) (drop (q .from) col)) e
 
 -- what is handed back
 abbrev pub handed : Answer → List Float → Part
@@ -94,6 +112,11 @@ module _ (k : ℕ) (p : PathTpc) (c : Columns) where
     counts-within true = omega (arith, sound-fewer p c h .1, room p c (sound-within p c h .1) .curves)
     counts-within false = omega (arith, sound-fewer p c h .0, room p c (sound-within p c h .1) .grades)
 
+    counts-bounded : (curves : Bool) → total (countOf curves) (linkPoints (p .«link_count») (c .offsets) (c .numbers)) ≤ 16384
+    unfolding totals
+    counts-bounded true = omega (arith, sound-fewer p c h .1, bounds p c (sound-within p c h .1))
+    counts-bounded false = omega (arith, sound-fewer p c h .0, bounds p c (sound-within p c h .1))
+
   module _ (curves : Bool) where
     -- ---- what is handed back
     -- the call for either kind
@@ -119,25 +142,45 @@ module _ (k : ℕ) (p : PathTpc) (c : Columns) where
           let z = ne-eqb (partAnswer k p c .number) 0 (λ t. h (ap (λ (b : Answer). b .number) e ∙ t)) in
           ap₂ handed (answered e) (ap (λ (b : Bool). cond b (partOf (countOf curves) k (pathOf p c .links) (columnOf curves c)) []) (sym z)) ∙ sym parts
 
+      pub no-range : (a .number ≡ 0 → ⊥) → _≡_ {A = RangeAnswer} (record { answer = a; range = record { from = 0; len = 0 } }) (linkRangeOf curves k p c)
+      unfolding linkRangeOf
+      no-range h =
+          let z = ne-eqb (partAnswer k p c .number) 0 (λ t. h (ap (λ (b : Answer). b .number) e ∙ t)) in
+          ap₂ (λ (b : Answer) (r : Range). record { answer = b; range = r }) e (ap (λ (b : Bool). cond b (rangeOf (countOf curves) k (pathOf p c .links)) (record { from = 0; len = 0 })) (sym z))
+
       module _ (t : a .number ≡ 0) where
         done-number : partAnswer k p c .number ≡ 0
         done-number = ap (λ (b : Answer). b .number) (sym e) ∙ t
 
         -- what `link_part` asks for
-        pub inside : (k < 1025) × (3 * total (countOf curves) (linkPoints (k + 1) (c .offsets) (c .numbers)) ≤ length (columnOf curves c))
+        pub inside :
+            (k < 1025)
+            × ((total (countOf curves) (linkPoints (k + 1) (c .offsets) (c .numbers)) ≤ 16384)
+            × (3 * total (countOf curves) (linkPoints (k + 1) (c .offsets) (c .numbers)) ≤ length (columnOf curves c)))
         inside =
             let known = part-done done-number in
             let few = bounds p c (sound-within p c (known .0) .1) .0 in
-            (omega arith, omega (arith, counts-within (known .0) curves, links-fewer (countOf curves) (c .offsets) (c .numbers) (k + 1) (p .«link_count») (omega arith)))
+            let fewer = links-fewer (countOf curves) (c .offsets) (c .numbers) (k + 1) (p .«link_count») (omega arith) in
+            (omega arith, (omega (arith, counts-bounded (known .0) curves, fewer), omega (arith, counts-within (known .0) curves, fewer)))
+
+        pub range-handed :
+            {r : Range}
+            → r ≡ rangeOf (countOf curves) k (linkPoints (k + 1) (c .offsets) (c .numbers))
+            → _≡_ {A = RangeAnswer} (record { answer = a; range = r }) (linkRangeOf curves k p c)
+        unfolding linkRangeOf pathOf
+        range-handed g =
+            let z = eq-eqb (partAnswer k p c .number) 0 done-number in
+            let known = part-done done-number in
+            let l = g ∙ range-same (countOf curves) (c .offsets) (c .numbers) k (p .«link_count») (omega arith) in
+            ap₂ (λ (b : Answer) (r : Range). record { answer = b; range = r }) e (l ∙ ap (λ (b : Bool). cond b (rangeOf (countOf curves) k (pathOf p c .links)) (record { from = 0; len = 0 })) (sym z))
 
         pub part-handed :
             {l : List Float}
             → l ≡ partOf (countOf curves) k (linkPoints (k + 1) (c .offsets) (c .numbers)) (columnOf curves c)
             → handed (record { number = a .number; place = 0 }) l ≡ partsOf
-        unfolding pathOf
+        unfolding pathOf partOf
         part-handed g =
             let z = eq-eqb (partAnswer k p c .number) 0 done-number in
             let known = part-done done-number in
-            let own = part-of-links (countOf curves) (c .offsets) (c .numbers) (columnOf curves c) k in
-            let l = g ∙ own (k + 1) (omega arith) ∙ sym (own (p .«link_count») (omega arith)) in
+            let l = g ∙ ap (λ (r : Range). take (r .len) (drop (r .from) (columnOf curves c))) (range-same (countOf curves) (c .offsets) (c .numbers) k (p .«link_count») (omega arith)) in
             ap₂ handed (answered e) (l ∙ ap (λ (b : Bool). cond b (partOf (countOf curves) k (pathOf p c .links) (columnOf curves c)) []) (sym z)) ∙ sym parts

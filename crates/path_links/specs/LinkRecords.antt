@@ -1,7 +1,7 @@
 -- The grade or curve records of a link: difference 5, "the grade or curve records of the k-th link (k from 0; as many as its count), handed back as
 -- that part of the caller's column; refused with 10 past the last link". Definitions only.
 use Prim.Native.Nat.{ℕ, _+_, _*_}
-use mathlib.Core.Bool.{true, false, cond}
+use mathlib.Core.Bool.{Bool, true, false, cond}
 use mathlib.Core.List.{List, [], _∷_}
 use lib.Dec.{ltb}
 use lib.ListN.{take, drop}
@@ -12,6 +12,8 @@ use Rattle.path.specs.declared.link_point.LinkPoint.{LinkPoint}
 use Rattle.path.specs.Records.{Columns, linkPointAt, pathOf}
 use Rattle.path.specs.Answers.{isDone, ask, inTurn}
 use Rattle.path.specs.Sound.{pathAnswer, total, countOf}
+use Rattle.path_links.specs.declared.link_records.Range.{Range}
+use Rattle.path_links.specs.declared.link_records.RangeAnswer.{RangeAnswer}
 
 -- an answer, and the part that is handed back with it
 pub record Part : Type 0 where
@@ -23,10 +25,14 @@ unfoldable pub partAnswer : ℕ → PathTpc → Columns → Answer
 unfolding pathAnswer inTurn
 partAnswer k p c = inTurn (pathAnswer true p c ∷ ask 10 (ltb (k + 1) (p .«link_count»)) ∷ [])
 
--- three entries to a record, located by the summed counts
-unfoldable pub partOf : (LinkPoint → ℕ) → ℕ → List LinkPoint → List Float → List Float
+-- where the records of link k lie in their column: three entries to a record, located by the summed counts
+unfoldable pub rangeOf : (LinkPoint → ℕ) → ℕ → List LinkPoint → Range
 unfolding total
-partOf count k ps column = take (3 * count (linkPointAt ps k)) (drop (3 * total count (take k ps)) column)
+rangeOf count k ps = record { from = 3 * total count (take k ps); len = 3 * count (linkPointAt ps k) }
+
+unfoldable pub partOf : (LinkPoint → ℕ) → ℕ → List LinkPoint → List Float → List Float
+unfolding rangeOf
+partOf count k ps column = take (rangeOf count k ps .len) (drop (rangeOf count k ps .from) column)
 
 -- a refused call hands an empty part back
 abbrev pub handedBack : Answer → List Float → Part
@@ -39,3 +45,10 @@ linkGradesOf k p c = handedBack (partAnswer k p c) (partOf (countOf false) k (pa
 unfoldable pub linkCurvesOf : ℕ → PathTpc → Columns → Part
 unfolding partAnswer partOf pathOf
 linkCurvesOf k p c = handedBack (partAnswer k p c) (partOf (countOf true) k (pathOf p c .links) (c .curves))
+
+-- the same as a range of the column of grades or curves; nothing from 0 for a refusal
+unfoldable pub linkRangeOf : Bool → ℕ → PathTpc → Columns → RangeAnswer
+unfolding partAnswer rangeOf pathOf
+linkRangeOf curves k p c =
+    let a = partAnswer k p c in
+    record { answer = a; range = cond (isDone a) (rangeOf (countOf curves) k (pathOf p c .links)) (record { from = 0; len = 0 }) }

@@ -13,6 +13,20 @@ ghost use Rattle.path.specs.Records.{columns, linkPoints};
 ghost use Rattle.path.specs.Sound.{countOf, total};
 ghost use Rattle.path_links.specs.LinkRecords as spec;
 
+// A range of a column's entries.
+#[repr(C)]
+pub struct Range {
+    pub from: usize,
+    pub len: usize,
+}
+
+// An answer with the range of a link's records.
+#[repr(C)]
+pub struct RangeAnswer {
+    pub answer: Answer,
+    pub range: Range,
+}
+
 // Questions 1, 2 and 10.
 fn part_answer(
     p: PathTpc,
@@ -47,7 +61,20 @@ fn part_answer(
     asked(10, k + 1 < p.link_count)
 }
 
-// The records of link k, grades or curves, in their column.
+// Where the records of link k, grades or curves, lie in their column.
+fn record_range(offsets: &[f64], numbers: &[u32], k: usize, curves: bool) -> Range
+    requires { ⌜ k < 1025 ⌝ }
+    requires { ⌜ total (countOf curves) (linkPoints (k + 1) (now offsets) (now numbers)) ≤ 16384 ⌝ }
+    ensures { λ r. ⌜ r ≡ spec.rangeOf (countOf curves) k (linkPoints (k + 1) (now (offsets .entry)) (now (numbers .entry))) ⌝ }
+{
+    let before = add_counts(offsets, numbers, k);
+    let own = link_point_at(offsets, numbers, k);
+    let from = 3 * count_of(before, curves);
+    let len = 3 * count_of(own, curves);
+    Range { from, len }
+}
+
+// The records of link k, grades or curves, as that part of their column.
 fn link_part<'a>(
     col: &'a [f64],
     offsets: &[f64],
@@ -56,13 +83,13 @@ fn link_part<'a>(
     curves: bool,
 ) -> &'a [f64]
     requires { ⌜ k < 1025 ⌝ }
+    requires { ⌜ total (countOf curves) (linkPoints (k + 1) (now offsets) (now numbers)) ≤ 16384 ⌝ }
     requires { ⌜ 3 * total (countOf curves) (linkPoints (k + 1) (now offsets) (now numbers)) ≤ length (now col) ⌝ }
     ensures { λ r. ⌜ now r ≡ spec.partOf (countOf curves) k (linkPoints (k + 1) (now (offsets .entry)) (now (numbers .entry))) (now (col .entry)) ⌝ }
 {
-    let before = add_counts(offsets, numbers, k);
-    let own = link_point_at(offsets, numbers, k);
-    let from = 3 * count_of(before, curves);
-    let to = from + 3 * count_of(own, curves);
+    let r = record_range(offsets, numbers, k, curves);
+    let from = r.from;
+    let to = from + r.len;
     &col[from..to]
 }
 
@@ -130,4 +157,42 @@ pub fn link_curves<'a>(
         return &curves[..0];
     }
     link_part(curves, offsets, numbers, k, true)
+}
+
+// Where the records of link k lie in the column of grades or of curves.
+pub fn link_range(
+    p: PathTpc,
+    k: usize,
+    wants_curves: bool,
+    offsets: &[f64],
+    numbers: &[u32],
+    grades: &[f64],
+    curves: &[f64],
+    speeds: &[f64],
+    powers: &[f64],
+    districts: &[u32],
+) -> RangeAnswer
+    ensures { λ r. ⌜ r ≡ spec.linkRangeOf «wants_curves» k p (columns (now (offsets .entry)) (now (numbers .entry)) (now (grades .entry)) (now (curves .entry)) (now (speeds .entry)) (now (powers .entry)) (now (districts .entry))) ⌝ }
+{
+    let answer = part_answer(
+        p,
+        k,
+        offsets,
+        numbers,
+        grades,
+        curves,
+        speeds,
+        powers,
+        districts,
+    );
+    if answer.number != 0 {
+        return RangeAnswer {
+            answer,
+            range: Range { from: 0, len: 0 },
+        };
+    }
+    RangeAnswer {
+        answer,
+        range: record_range(offsets, numbers, k, wants_curves),
+    }
 }

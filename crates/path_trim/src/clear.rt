@@ -19,6 +19,7 @@ ghost use Rattle.path.specs.Sound.{sound, totals};
 ghost use Rattle.path_trim.specs.Clear as spec;
 
 // What `clear` answers: the path's record, and the counts of the links that went.
+#[repr(C)]
 pub struct ClearAnswer {
     pub outcome: PathAnswer,
     pub dropped: LinkPoint,

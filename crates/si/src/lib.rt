@@ -3,18 +3,23 @@ ghost use mathlib.Core.Path.{_≡_};
 ghost use Rattle.si.specs.Constants as constants;
 
 // metres
+#[repr(C)]
 pub struct Length(pub f64);
 
 // metres a second
+#[repr(C)]
 pub struct Velocity(pub f64);
 
 // kilograms
+#[repr(C)]
 pub struct Mass(pub f64);
 
 // newtons
+#[repr(C)]
 pub struct Force(pub f64);
 
 // without a unit
+#[repr(C)]
 pub struct Ratio(pub f64);
 
 // radians

@@ -4,7 +4,7 @@ use mathlib.Core.Path.{_≡_, refl, sym, ap, _∙_}
 use native.Mathlib.Omega.{arith}
 use lib.Ieee as Ieee
 use Rattle.column.proofs.Bridge.{length-records}
-use Rattle.lookup.specs.Coeff.{triple, coeffs}
+use Rattle.lookup.specs.Coeff.{triple, coeffs, offsetAt}
 use Rattle.lookup.proofs.Coeffs.{triple-lawful}
 use Rattle.lookup.specs.Search.{backwards}
 use Rattle.lookup.proofs.Steps.{backward-pass, backward-stop, backward-first}
@@ -37,7 +37,7 @@ loop-again c =
     let size = length-records triple triple-lawful n l in
     let i = c .before .before .before .before .before .loop .j in
     let x = c .before .before .before .before .before .before .before .args .x .0 in
-    (omega arith, sym (backward-pass x rs i (omega arith) (ap (Ieee.lt x) (sym (c .before .before .before .offset-at .ensures)) ∙ c .if1 .taken)) ∙ c .before .before .before .before .before .loop .inv .1)
+    (omega arith, sym (backward-pass (offsetAt rs) x i (omega arith) (ap (Ieee.lt x) (sym (c .before .before .before .offset-at .ensures)) ∙ c .if1 .taken)) ∙ c .before .before .before .before .before .loop .inv .1)
 
 returns : tie.Need-returns Inv-loop μ-loop
 returns c =
@@ -47,7 +47,7 @@ returns c =
     let size = length-records triple triple-lawful n l in
     let i = c .before .before .before .before .before .loop .j in
     let x = c .before .before .before .before .before .before .before .args .x .0 in
-    sym (backward-stop x rs i (ap (Ieee.lt x) (sym (c .before .before .before .offset-at .ensures)) ∙ c .if1 .left)) ∙ c .before .before .before .before .before .loop .inv .1
+    sym (backward-stop (offsetAt rs) x i (ap (Ieee.lt x) (sym (c .before .before .before .offset-at .ensures)) ∙ c .if1 .left)) ∙ c .before .before .before .before .before .loop .inv .1
 
 returns-2 : tie.Need-returns-2 Inv-loop μ-loop
 returns-2 c =
@@ -57,7 +57,7 @@ returns-2 c =
     let size = length-records triple triple-lawful n l in
     let i = c .before .loop .j in
     let x = c .before .before .before .args .x .0 in
-    sym (backward-first x rs i (omega arith)) ∙ c .before .loop .inv .1
+    sym (backward-first (offsetAt rs) x i (omega arith)) ∙ c .before .loop .inv .1
 
 pub backward-spec : {M : Type 1} → statement M
 backward-spec =

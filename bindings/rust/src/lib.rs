@@ -1,0 +1,2 @@
+//! The planner's calls for Rust.
+pub mod sys;

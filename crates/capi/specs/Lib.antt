@@ -1,0 +1,2 @@
+-- The definitions of the crate `capi`: codes of directions and train types.
+pub mod Codes

@@ -1,0 +1,224 @@
+// The calls that may change a path. Each is the library's call under a C name, with the same equation.
+use crate::codes::Train;
+use crate::codes::train_of;
+use path::path_tpc::PathAnswer;
+use path::path_tpc::PathTpc;
+use path_trim::clear::ClearAnswer;
+use si::Length;
+ghost use mathlib.Core.Path.{_≡_};
+ghost use Rattle.link.specs.Table.{tableOf};
+ghost use Rattle.path.specs.Records.{columns};
+ghost use Rattle.path.specs.Answers.{Outcome, left};
+ghost use Rattle.path_trim.specs.New.{newOf};
+ghost use Rattle.path_trim.specs.Finish.{finishOf};
+ghost use Rattle.path_trim.specs.Clear.{Cleared, clearOf};
+ghost use Rattle.path_links.specs.Reindex.{reindexOf};
+ghost use Rattle.path_speeds.specs.Recalc.{recalcOf};
+ghost use Rattle.path_extend.specs.Extend.{extendOf};
+ghost use Rattle.capi.specs.Codes.{trainOf};
+
+// `new`: a path without links.
+#[no_mangle]
+pub extern "C" fn mochaspit_new(
+    train: Train,
+    offsets: &mut [f64],
+    numbers: &mut [u32],
+    grades: &mut [f64],
+    curves: &mut [f64],
+    speeds: &mut [f64],
+    powers: &mut [f64],
+    districts: &mut [u32],
+) -> PathAnswer
+    ensures { λ r. ⌜ _≡_ {A = Outcome} (left r (columns (now (offsets .exit)) (now (numbers .exit)) (now (grades .exit)) (now (curves .exit)) (now (speeds .exit)) (now (powers .exit)) (now (districts .exit)))) (newOf (trainOf train) (columns (now (offsets .entry)) (now (numbers .entry)) (now (grades .entry)) (now (curves .entry)) (now (speeds .entry)) (now (powers .entry)) (now (districts .entry)))) ⌝ }
+{
+    path_trim::new::new(
+        train_of(train),
+        &mut *offsets,
+        &mut *numbers,
+        &mut *grades,
+        &mut *curves,
+        &mut *speeds,
+        &mut *powers,
+        &mut *districts,
+    )
+}
+
+// `extend`: the listed links join the path.
+#[no_mangle]
+pub extern "C" fn mochaspit_extend(
+    path: PathTpc,
+    train: Train,
+    list: &[u32],
+    offsets: &mut [f64],
+    numbers: &mut [u32],
+    grades: &mut [f64],
+    curves: &mut [f64],
+    speeds: &mut [f64],
+    powers: &mut [f64],
+    districts: &mut [u32],
+    links: &[u32],
+    lengths: &[f64],
+    sets: &[u32],
+    elevs: &[f64],
+    headings: &[f64],
+    limits: &[f64],
+    codes: &[u32],
+    values: &[f64],
+    pool: &[f64],
+    regions: &[u32],
+) -> PathAnswer
+    ensures { λ r. ⌜ _≡_ {A = Outcome} (left r (columns (now (offsets .exit)) (now (numbers .exit)) (now (grades .exit)) (now (curves .exit)) (now (speeds .exit)) (now (powers .exit)) (now (districts .exit)))) (extendOf (trainOf train) (tableOf (now (links .entry)) (now (lengths .entry)) (now (sets .entry)) (now (elevs .entry)) (now (headings .entry)) (now (limits .entry)) (now (codes .entry)) (now (values .entry)) (now (pool .entry)) (now (regions .entry))) (now (list .entry)) path (columns (now (offsets .entry)) (now (numbers .entry)) (now (grades .entry)) (now (curves .entry)) (now (speeds .entry)) (now (powers .entry)) (now (districts .entry)))) ⌝ }
+{
+    path_extend::extend::extend(
+        path,
+        train_of(train),
+        list,
+        &mut *offsets,
+        &mut *numbers,
+        &mut *grades,
+        &mut *curves,
+        &mut *speeds,
+        &mut *powers,
+        &mut *districts,
+        links,
+        lengths,
+        sets,
+        elevs,
+        headings,
+        limits,
+        codes,
+        values,
+        pool,
+        regions,
+    )
+}
+
+// `clear`: the links behind an offset go.
+#[no_mangle]
+pub extern "C" fn mochaspit_clear(
+    path: PathTpc,
+    offset: Length,
+    offsets: &mut [f64],
+    numbers: &mut [u32],
+    grades: &mut [f64],
+    curves: &mut [f64],
+    speeds: &mut [f64],
+    powers: &mut [f64],
+    districts: &mut [u32],
+) -> ClearAnswer
+    ensures { λ r. ⌜ _≡_ {A = Cleared} (record { outcome = left (r .outcome) (columns (now (offsets .exit)) (now (numbers .exit)) (now (grades .exit)) (now (curves .exit)) (now (speeds .exit)) (now (powers .exit)) (now (districts .exit))); dropped = r .dropped }) (clearOf (offset .0) path (columns (now (offsets .entry)) (now (numbers .entry)) (now (grades .entry)) (now (curves .entry)) (now (speeds .entry)) (now (powers .entry)) (now (districts .entry)))) ⌝ }
+{
+    path_trim::clear::clear(
+        path,
+        offset,
+        &mut *offsets,
+        &mut *numbers,
+        &mut *grades,
+        &mut *curves,
+        &mut *speeds,
+        &mut *powers,
+        &mut *districts,
+    )
+}
+
+// `finish`: the path is closed.
+#[no_mangle]
+pub extern "C" fn mochaspit_finish(
+    path: PathTpc,
+    offsets: &mut [f64],
+    numbers: &mut [u32],
+    grades: &mut [f64],
+    curves: &mut [f64],
+    speeds: &mut [f64],
+    powers: &mut [f64],
+    districts: &mut [u32],
+) -> PathAnswer
+    ensures { λ r. ⌜ _≡_ {A = Outcome} (left r (columns (now (offsets .exit)) (now (numbers .exit)) (now (grades .exit)) (now (curves .exit)) (now (speeds .exit)) (now (powers .exit)) (now (districts .exit)))) (finishOf path (columns (now (offsets .entry)) (now (numbers .entry)) (now (grades .entry)) (now (curves .entry)) (now (speeds .entry)) (now (powers .entry)) (now (districts .entry)))) ⌝ }
+{
+    path_trim::finish::finish(
+        path,
+        &mut *offsets,
+        &mut *numbers,
+        &mut *grades,
+        &mut *curves,
+        &mut *speeds,
+        &mut *powers,
+        &mut *districts,
+    )
+}
+
+// `recalc_speeds`: the speed points anew.
+#[no_mangle]
+pub extern "C" fn mochaspit_recalc_speeds(
+    path: PathTpc,
+    train: Train,
+    offsets: &mut [f64],
+    numbers: &mut [u32],
+    grades: &mut [f64],
+    curves: &mut [f64],
+    speeds: &mut [f64],
+    powers: &mut [f64],
+    districts: &mut [u32],
+    links: &[u32],
+    lengths: &[f64],
+    sets: &[u32],
+    elevs: &[f64],
+    headings: &[f64],
+    limits: &[f64],
+    codes: &[u32],
+    values: &[f64],
+    pool: &[f64],
+    regions: &[u32],
+) -> PathAnswer
+    ensures { λ r. ⌜ _≡_ {A = Outcome} (left r (columns (now (offsets .exit)) (now (numbers .exit)) (now (grades .exit)) (now (curves .exit)) (now (speeds .exit)) (now (powers .exit)) (now (districts .exit)))) (recalcOf (trainOf train) (tableOf (now (links .entry)) (now (lengths .entry)) (now (sets .entry)) (now (elevs .entry)) (now (headings .entry)) (now (limits .entry)) (now (codes .entry)) (now (values .entry)) (now (pool .entry)) (now (regions .entry))) path (columns (now (offsets .entry)) (now (numbers .entry)) (now (grades .entry)) (now (curves .entry)) (now (speeds .entry)) (now (powers .entry)) (now (districts .entry)))) ⌝ }
+{
+    path_speeds::recalc_speeds::recalc_speeds(
+        path,
+        train_of(train),
+        &mut *offsets,
+        &mut *numbers,
+        &mut *grades,
+        &mut *curves,
+        &mut *speeds,
+        &mut *powers,
+        &mut *districts,
+        links,
+        lengths,
+        sets,
+        elevs,
+        headings,
+        limits,
+        codes,
+        values,
+        pool,
+        regions,
+    )
+}
+
+// `reindex`: every link gets the number that a list has for it.
+#[no_mangle]
+pub extern "C" fn mochaspit_reindex(
+    path: PathTpc,
+    new: &[u32],
+    offsets: &mut [f64],
+    numbers: &mut [u32],
+    grades: &mut [f64],
+    curves: &mut [f64],
+    speeds: &mut [f64],
+    powers: &mut [f64],
+    districts: &mut [u32],
+) -> PathAnswer
+    ensures { λ r. ⌜ _≡_ {A = Outcome} (left r (columns (now (offsets .exit)) (now (numbers .exit)) (now (grades .exit)) (now (curves .exit)) (now (speeds .exit)) (now (powers .exit)) (now (districts .exit)))) (reindexOf (now (new .entry)) path (columns (now (offsets .entry)) (now (numbers .entry)) (now (grades .entry)) (now (curves .entry)) (now (speeds .entry)) (now (powers .entry)) (now (districts .entry)))) ⌝ }
+{
+    path_links::reindex::reindex(
+        path,
+        new,
+        &mut *offsets,
+        &mut *numbers,
+        &mut *grades,
+        &mut *curves,
+        &mut *speeds,
+        &mut *powers,
+        &mut *districts,
+    )
+}

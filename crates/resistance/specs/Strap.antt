@@ -1,0 +1,135 @@
+-- `Strap`: document 01, path_res.rs. Definitions only.
+use Prim.Native.Nat.{ℕ, _-_}
+use mathlib.Core.Bool.{Bool, _&&_, cond}
+use mathlib.Core.List.{List, [], _∷_, _++_}
+use lib.Dec.{leb, eqb}
+use lib.ListN.{length}
+use lib.Ieee.{Float}
+use lib.Ieee.Scale.{finite}
+use Rattle.ieee.specs.Number.{+0, _⊖_, _⊗_, _⊘_, allFinite}
+use Rattle.lookup.specs.declared.lin_search_hint.Dir.{Dir}
+use Rattle.lookup.specs.declared.lin_search_hint.Dir.the-variants.{Unk, Fwd, Bwd}
+use Rattle.lookup.specs.declared.path_res_coeff.PathResCoeff.{PathResCoeff}
+use Rattle.lookup.specs.Coeff.{coeffs, coefficientOf, resVal}
+use Rattle.path.specs.declared.path_tpc.Answer.{Answer}
+use Rattle.path.specs.Answers.{done, isDone, ask, inTurn}
+use Rattle.train.specs.declared.train_state.TrainState.{TrainState}
+use Rattle.train.specs.Position.{frontOf, backOf, lengthOf, weightOf, stateFinite}
+use Rattle.resistance.specs.declared.listed.Searched.{Searched}
+use Rattle.resistance.specs.declared.strap.Strap.{Strap}
+use Rattle.resistance.specs.declared.strap.StrapAnswer.{StrapAnswer}
+use Rattle.resistance.specs.declared.strap.StrapRes.{StrapRes}
+use Rattle.resistance.specs.Listed.{listAnswer, search, notSearched, coeffAt, valueSteps}
+
+abbrev pub strapOf : ℕ → ℕ → Strap
+strapOf front back = record { «idx_front» = front; «idx_back» = back }
+
+abbrev pub frontIdx : Strap → ℕ
+frontIdx t = t .«idx_front»
+
+abbrev pub backIdx : Strap → ℕ
+backIdx t = t .«idx_back»
+
+-- ---- the searches of a call
+
+abbrev pub answered : Answer → Strap → StrapAnswer
+answered a t = record { answer = a; strap = t }
+
+-- what follows a search is made only where the search is done; t is what a refusal hands back
+abbrev pub afterSearch : Strap → Searched → StrapAnswer → StrapAnswer
+afterSearch t found next = cond (isDone (found .answer)) next (answered (found .answer) t)
+
+-- the back searched for, the front being found already
+unfoldable pub movedBack : Dir → Strap → ℕ → TrainState → List PathResCoeff → StrapAnswer
+unfolding search
+movedBack dir t front s rs = let back = search dir (backOf s) (backIdx t) rs in afterSearch t back (answered done (strapOf front (back .idx)))
+
+-- the front searched for, the back being found already
+unfoldable pub movedFront : Dir → Strap → ℕ → TrainState → List PathResCoeff → StrapAnswer
+unfolding search
+movedFront dir t back s rs = let front = search dir (frontOf s) (frontIdx t) rs in afterSearch t front (answered done (strapOf (front .idx) back))
+
+-- "`Strap` advances the front (Fwd), the back (Bwd) or both (Unk); if the two indices are equal [..], otherwise it updates the other (not for Unk)"
+unfoldable pub moved : Dir → Strap → TrainState → List PathResCoeff → StrapAnswer
+unfolding search movedBack movedFront
+moved Fwd t s rs =
+    let front = search Fwd (frontOf s) (frontIdx t) rs in
+    afterSearch t front (cond (eqb (front .idx) (backIdx t)) (answered done (strapOf (front .idx) (backIdx t))) (movedBack Fwd t (front .idx) s rs))
+moved Bwd t s rs =
+    let back = search Bwd (backOf s) (backIdx t) rs in
+    afterSearch t back (cond (eqb (back .idx) (frontIdx t)) (answered done (strapOf (frontIdx t) (back .idx))) (movedFront Bwd t (back .idx) s rs))
+moved Unk t s rs =
+    let front = search Unk (frontOf s) (frontIdx t) rs in
+    afterSearch t front (movedBack Unk t (front .idx) s rs)
+
+-- ---- the resistance at two indices
+
+-- the value at the front by the front's record
+abbrev pub frontValue : Strap → TrainState → List PathResCoeff → Float
+frontValue t s rs = resVal (coeffAt rs (frontIdx t)) (frontOf s)
+
+-- the value at the back by the back's record
+abbrev pub backValue : Strap → TrainState → List PathResCoeff → Float
+backValue t s rs = resVal (coeffAt rs (backIdx t)) (backOf s)
+
+-- "if the two indices are equal it takes that coefficient, otherwise (front value − back value) / length"
+unfoldable pub calcResStrap : Strap → TrainState → List PathResCoeff → Float
+unfolding resVal
+calcResStrap t s rs = cond (eqb (frontIdx t) (backIdx t)) (coefficientOf (coeffAt rs (frontIdx t))) ((frontValue t s rs ⊖ backValue t s rs) ⊘ lengthOf s)
+
+-- "Times `weight_static`."
+abbrev pub resAt : Strap → TrainState → List PathResCoeff → Float
+resAt t s rs = calcResStrap t s rs ⊗ weightOf s
+
+-- every result on the way, in the order of the operations
+unfoldable pub resSteps : Strap → TrainState → List PathResCoeff → List Float
+unfolding resVal calcResStrap
+resSteps t s rs =
+    cond (eqb (frontIdx t) (backIdx t))
+    (resAt t s rs ∷ [])
+    (valueSteps (coeffAt rs (frontIdx t)) (frontOf s) ++ (valueSteps (coeffAt rs (backIdx t)) (backOf s)
+    ++ ((frontValue t s rs ⊖ backValue t s rs) ∷ calcResStrap t s rs ∷ resAt t s rs ∷ [])))
+
+-- ---- in a list that is known to be sound
+
+-- "a new `Strap` searches Fwd for the back, offset − length, from 0 and for the front from the back's answer, and has 0 and 0 for a single record"
+unfoldable pub newKnown : TrainState → List PathResCoeff → StrapAnswer
+unfolding search
+newKnown s rs =
+    let none = strapOf 0 0 in
+    let x = frontOf s ⊖ lengthOf s in
+    let back = cond (finite x) (search Fwd x 0 rs) (notSearched 8) in
+    let front = search Fwd (frontOf s) (back .idx) rs in
+    cond (leb (length rs) 1) (answered done none) (afterSearch none back (afterSearch none front (answered done (strapOf (front .idx) (back .idx)))))
+
+-- a refused call hands the record back as it came
+abbrev pub refusedRes : Answer → Strap → StrapRes
+refusedRes a t = record { answer = a; strap = t; res = record { 0 = +0 } }
+
+-- the searches, and then question 8
+unfoldable pub calcResKnown : Dir → Strap → TrainState → List PathResCoeff → StrapRes
+unfolding moved resSteps calcResStrap inTurn allFinite
+calcResKnown dir t s rs =
+    let m = moved dir t s rs in
+    let a = inTurn (m .answer ∷ ask 8 (allFinite (resSteps (m .strap) s rs)) ∷ []) in
+    cond (isDone a) (record { answer = done; strap = m .strap; res = record { 0 = resAt (m .strap) s rs } }) (refusedRes a t)
+
+-- ---- the public calls: behind questions 1 and 2
+
+unfoldable pub newOf : TrainState → ℕ → List Float → StrapAnswer
+unfolding listAnswer newKnown stateFinite
+newOf s n c =
+    let a = listAnswer (stateFinite s) n c in
+    cond (isDone a) (newKnown s (coeffs n c)) (answered a (strapOf 0 0))
+
+unfoldable pub calcResOf : Dir → Strap → TrainState → ℕ → List Float → StrapRes
+unfolding listAnswer calcResKnown stateFinite
+calcResOf dir t s n c =
+    let a = listAnswer (stateFinite s) n c in
+    cond (isDone a) (calcResKnown dir t s (coeffs n c)) (refusedRes a t)
+
+-- "`fix_cache` subtracts a dropped count"; question 11: "`fix_cache` not below 0", of both indices before either changes
+unfoldable pub fixCache : Strap → ℕ → StrapAnswer
+fixCache t sub =
+    let a = ask 11 (leb sub (backIdx t) && leb sub (frontIdx t)) in
+    answered a (cond (isDone a) (strapOf (frontIdx t - sub) (backIdx t - sub)) t)

@@ -1,0 +1,366 @@
+// `Strap`: the train as a strap from front to back.
+use crate::listed::CoeffAnswer;
+use crate::listed::NetAnswer;
+use crate::listed::list_answer;
+use crate::listed::res_coeff;
+use crate::listed::res_net;
+use crate::listed::search;
+use lookup::lin_search_hint::Dir;
+use lookup::path_res_coeff::calc_res_val;
+use lookup::path_res_coeff::coeff_at;
+use path::answer::asked;
+use path::path_tpc::Answer;
+use si::Force;
+use si::Length;
+use si::Ratio;
+use train::train_state::TrainState;
+use train::train_state::state_finite;
+ghost use mathlib.Core.Path.{_≡_};
+ghost use Prim.Native.Nat.{_*_, _≤_, _<_};
+ghost use lib.ListN.{length};
+ghost use Rattle.lookup.specs.declared.lin_search_hint.Dir.the-variants as Dirs;
+ghost use Rattle.lookup.specs.Coeff.{coeffs};
+ghost use Rattle.resistance.specs.Listed.{resCoeffOf, resNetOf};
+ghost use Rattle.resistance.specs.Strap as spec;
+
+// The indices of the train's front and back in a list.
+pub struct Strap {
+    pub idx_front: usize,
+    pub idx_back: usize,
+}
+
+// An answer with the record of a strap.
+pub struct StrapAnswer {
+    pub answer: Answer,
+    pub strap: Strap,
+}
+
+// An answer with the record of a strap and a force.
+pub struct StrapRes {
+    pub answer: Answer,
+    pub strap: Strap,
+    pub res: Force,
+}
+
+// The back is searched for; front is found already. strap is what a refusal hands back.
+fn moved_back(
+    strap: Strap,
+    front: usize,
+    col: &[f64],
+    n: usize,
+    state: TrainState,
+    dir: Dir,
+) -> StrapAnswer
+    requires { ⌜ 0 < n ⌝ }
+    requires { ⌜ 3 * n ≤ length (now col) ⌝ }
+    ensures { λ r. ⌜ r ≡ spec.movedBack dir strap front state (coeffs n (now (col .entry))) ⌝ }
+{
+    let back = search(col, n, Length(state.offset_back.0), strap.idx_back, dir);
+    let answer = back.answer;
+    if answer.number != 0 {
+        return StrapAnswer { answer, strap };
+    }
+    StrapAnswer {
+        answer,
+        strap: Strap {
+            idx_front: front,
+            idx_back: back.idx,
+        },
+    }
+}
+
+// The front is searched for; back is found already. strap is what a refusal hands back.
+fn moved_front(
+    strap: Strap,
+    back: usize,
+    col: &[f64],
+    n: usize,
+    state: TrainState,
+    dir: Dir,
+) -> StrapAnswer
+    requires { ⌜ 0 < n ⌝ }
+    requires { ⌜ 3 * n ≤ length (now col) ⌝ }
+    ensures { λ r. ⌜ r ≡ spec.movedFront dir strap back state (coeffs n (now (col .entry))) ⌝ }
+{
+    let front = search(col, n, Length(state.offset.0), strap.idx_front, dir);
+    let answer = front.answer;
+    if answer.number != 0 {
+        return StrapAnswer { answer, strap };
+    }
+    StrapAnswer {
+        answer,
+        strap: Strap {
+            idx_front: front.idx,
+            idx_back: back,
+        },
+    }
+}
+
+// Fwd: the front, and then the back unless it is there already.
+fn moved_fwd(strap: Strap, col: &[f64], n: usize, state: TrainState) -> StrapAnswer
+    requires { ⌜ 0 < n ⌝ }
+    requires { ⌜ 3 * n ≤ length (now col) ⌝ }
+    ensures { λ r. ⌜ r ≡ spec.moved Dirs.Fwd strap state (coeffs n (now (col .entry))) ⌝ }
+{
+    let front = search(col, n, Length(state.offset.0), strap.idx_front, Dir::Fwd);
+    let answer = front.answer;
+    if answer.number != 0 {
+        return StrapAnswer { answer, strap };
+    }
+    if front.idx == strap.idx_back {
+        return StrapAnswer {
+            answer,
+            strap: Strap {
+                idx_front: front.idx,
+                idx_back: strap.idx_back,
+            },
+        };
+    }
+    moved_back(strap, front.idx, col, n, state, Dir::Fwd)
+}
+
+// Bwd: the back, and then the front unless it is there already.
+fn moved_bwd(strap: Strap, col: &[f64], n: usize, state: TrainState) -> StrapAnswer
+    requires { ⌜ 0 < n ⌝ }
+    requires { ⌜ 3 * n ≤ length (now col) ⌝ }
+    ensures { λ r. ⌜ r ≡ spec.moved Dirs.Bwd strap state (coeffs n (now (col .entry))) ⌝ }
+{
+    let back = search(
+        col,
+        n,
+        Length(state.offset_back.0),
+        strap.idx_back,
+        Dir::Bwd,
+    );
+    let answer = back.answer;
+    if answer.number != 0 {
+        return StrapAnswer { answer, strap };
+    }
+    if back.idx == strap.idx_front {
+        return StrapAnswer {
+            answer,
+            strap: Strap {
+                idx_front: strap.idx_front,
+                idx_back: back.idx,
+            },
+        };
+    }
+    moved_front(strap, back.idx, col, n, state, Dir::Bwd)
+}
+
+// Unk: the front, and then the back.
+fn moved_unk(strap: Strap, col: &[f64], n: usize, state: TrainState) -> StrapAnswer
+    requires { ⌜ 0 < n ⌝ }
+    requires { ⌜ 3 * n ≤ length (now col) ⌝ }
+    ensures { λ r. ⌜ r ≡ spec.moved Dirs.Unk strap state (coeffs n (now (col .entry))) ⌝ }
+{
+    let front = search(col, n, Length(state.offset.0), strap.idx_front, Dir::Unk);
+    let answer = front.answer;
+    if answer.number != 0 {
+        return StrapAnswer { answer, strap };
+    }
+    moved_back(strap, front.idx, col, n, state, Dir::Unk)
+}
+
+// The two indices after the searches of a direction.
+fn moved(strap: Strap, col: &[f64], n: usize, state: TrainState, dir: Dir) -> StrapAnswer
+    requires { ⌜ 0 < n ⌝ }
+    requires { ⌜ 3 * n ≤ length (now col) ⌝ }
+    ensures { λ r. ⌜ r ≡ spec.moved dir strap state (coeffs n (now (col .entry))) ⌝ }
+{
+    match dir {
+        Dir::Fwd => moved_fwd(strap, col, n, state),
+        Dir::Bwd => moved_bwd(strap, col, n, state),
+        Dir::Unk => moved_unk(strap, col, n, state),
+    }
+}
+
+// The strap's coefficient: that of the one record, or (front value - back value) / length.
+fn calc_res_strap(strap: Strap, col: &[f64], n: usize, state: TrainState) -> Ratio
+    requires { ⌜ strap .«idx_front» < n ⌝ }
+    requires { ⌜ strap .«idx_back» < n ⌝ }
+    ensures { λ r. ⌜ r .0 ≡ spec.calcResStrap strap state (coeffs n (now (col .entry))) ⌝ }
+{
+    let front = coeff_at(col, strap.idx_front);
+    if strap.idx_front == strap.idx_back {
+        return Ratio(front.res_coeff.0);
+    }
+    let front_value = calc_res_val(front, Length(state.offset.0));
+    let back = coeff_at(col, strap.idx_back);
+    let back_value = calc_res_val(back, Length(state.offset_back.0));
+    Ratio((front_value.0 - back_value.0) / state.length.0)
+}
+
+// A new strap on a list that is known to be sound.
+pub fn new_known(col: &[f64], n: usize, state: TrainState) -> StrapAnswer
+    requires { ⌜ 0 < n ⌝ }
+    requires { ⌜ 3 * n ≤ length (now col) ⌝ }
+    ensures { λ r. ⌜ r ≡ spec.newKnown state (coeffs n (now (col .entry))) ⌝ }
+{
+    let none = Strap {
+        idx_front: 0,
+        idx_back: 0,
+    };
+    if n <= 1 {
+        return StrapAnswer {
+            answer: asked(0, true),
+            strap: none,
+        };
+    }
+    let x = state.offset.0 - state.length.0;
+    if !ieee::is_finite(x) {
+        return StrapAnswer {
+            answer: asked(8, false),
+            strap: none,
+        };
+    }
+    let back = search(col, n, Length(x), 0, Dir::Fwd);
+    let answer = back.answer;
+    if answer.number != 0 {
+        return StrapAnswer {
+            answer,
+            strap: none,
+        };
+    }
+    let front = search(col, n, Length(state.offset.0), back.idx, Dir::Fwd);
+    let other = front.answer;
+    if other.number != 0 {
+        return StrapAnswer {
+            answer: other,
+            strap: none,
+        };
+    }
+    StrapAnswer {
+        answer: other,
+        strap: Strap {
+            idx_front: front.idx,
+            idx_back: back.idx,
+        },
+    }
+}
+
+// A new strap: questions 1, 2, 8 and 10.
+pub fn new(col: &[f64], n: usize, state: TrainState) -> StrapAnswer
+    ensures { λ r. ⌜ r ≡ spec.newOf state n (now (col .entry)) ⌝ }
+{
+    let finite = state_finite(state);
+    let first = list_answer(col, n, finite);
+    if first.number != 0 {
+        return StrapAnswer {
+            answer: first,
+            strap: Strap {
+                idx_front: 0,
+                idx_back: 0,
+            },
+        };
+    }
+    new_known(col, n, state)
+}
+
+// The resistance of a strap on a list that is known to be sound.
+pub fn calc_res_known(strap: Strap, col: &[f64], n: usize, state: TrainState, dir: Dir) -> StrapRes
+    requires { ⌜ 0 < n ⌝ }
+    requires { ⌜ 3 * n ≤ length (now col) ⌝ }
+    ensures { λ r. ⌜ r ≡ spec.calcResKnown dir strap state (coeffs n (now (col .entry))) ⌝ }
+{
+    let m = moved(strap, col, n, state, dir);
+    let answer = m.answer;
+    if answer.number != 0 {
+        return StrapRes {
+            answer,
+            strap,
+            res: Force(0.0),
+        };
+    }
+    let after = m.strap;
+    let coeff = calc_res_strap(after, col, n, state);
+    let res = coeff.0 * state.weight_static.0;
+    if !ieee::is_finite(res) {
+        return StrapRes {
+            answer: asked(8, false),
+            strap,
+            res: Force(0.0),
+        };
+    }
+    StrapRes {
+        answer,
+        strap: after,
+        res: Force(res),
+    }
+}
+
+// The resistance of a strap: questions 1, 2, then each search's 10 and 11, then 8.
+pub fn calc_res(strap: Strap, col: &[f64], n: usize, state: TrainState, dir: Dir) -> StrapRes
+    ensures { λ r. ⌜ r ≡ spec.calcResOf dir strap state n (now (col .entry)) ⌝ }
+{
+    let finite = state_finite(state);
+    let first = list_answer(col, n, finite);
+    if first.number != 0 {
+        return StrapRes {
+            answer: first,
+            strap,
+            res: Force(0.0),
+        };
+    }
+    calc_res_known(strap, col, n, state, dir)
+}
+
+// The coefficient of the front's record.
+pub fn res_coeff_front(strap: Strap, col: &[f64], n: usize) -> CoeffAnswer
+    ensures { λ r. ⌜ r ≡ resCoeffOf (strap .«idx_front») n (now (col .entry)) ⌝ }
+{
+    res_coeff(strap.idx_front, col, n)
+}
+
+// The coefficient of the back's record.
+pub fn res_coeff_back(strap: Strap, col: &[f64], n: usize) -> CoeffAnswer
+    ensures { λ r. ⌜ r ≡ resCoeffOf (strap .«idx_back») n (now (col .entry)) ⌝ }
+{
+    res_coeff(strap.idx_back, col, n)
+}
+
+// The value at the front, by the front's record.
+pub fn res_net_front(strap: Strap, col: &[f64], n: usize, state: TrainState) -> NetAnswer
+    ensures { λ r. ⌜ r ≡ resNetOf (strap .«idx_front») (state .offset .0) state n (now (col .entry)) ⌝ }
+{
+    res_net(strap.idx_front, Length(state.offset.0), col, n, state)
+}
+
+// The value at the back, by the back's record.
+pub fn res_net_back(strap: Strap, col: &[f64], n: usize, state: TrainState) -> NetAnswer
+    ensures { λ r. ⌜ r ≡ resNetOf (strap .«idx_back») (state .«offset_back» .0) state n (now (col .entry)) ⌝ }
+{
+    res_net(strap.idx_back, Length(state.offset_back.0), col, n, state)
+}
+
+// The front's index.
+pub fn path_tpc_idx_front(strap: Strap) -> usize
+    ensures { λ r. ⌜ r ≡ strap .«idx_front» ⌝ }
+{
+    strap.idx_front
+}
+
+// The two indices once sub records at the front are dropped: question 11.
+pub fn fix_cache(strap: Strap, sub: usize) -> StrapAnswer
+    ensures { λ r. ⌜ r ≡ spec.fixCache strap sub ⌝ }
+{
+    if strap.idx_back < sub {
+        return StrapAnswer {
+            answer: asked(11, false),
+            strap,
+        };
+    }
+    if strap.idx_front < sub {
+        return StrapAnswer {
+            answer: asked(11, false),
+            strap,
+        };
+    }
+    StrapAnswer {
+        answer: asked(11, true),
+        strap: Strap {
+            idx_front: strap.idx_front - sub,
+            idx_back: strap.idx_back - sub,
+        },
+    }
+}
