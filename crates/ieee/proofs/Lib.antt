@@ -6,3 +6,4 @@ pub mod Speed
 pub mod Round
 pub mod Sum
 pub mod OrderKey
+pub mod Finite

@@ -5,7 +5,8 @@ use native.Mathlib.Omega.{arith}
 use mathlib.Core.Path.{_≡_, refl, sym, ap, _∙_, subst}
 use mathlib.Core.Bool.{Bool, true, false, not, cond}
 use mathlib.Core.List.{List, [], _∷_}
-use lib.Dec.{T}
+use borrow.Author.Tests.{ltb-true}
+use lib.Dec.{T, ltb}
 use lib.ListN.{length, drop, length-drop}
 use lib.Seq.{getD-drop}
 use lib.Ieee as Ieee
@@ -13,9 +14,12 @@ use lib.Ieee.{Float}
 use mathlib.Core.Logic.{inl, inr}
 use Rattle.ieee.proofs.Order.{of-true, of-false, lt-not-le}
 use Rattle.ieee.proofs.Round.{split}
+use Rattle.lookup.specs.declared.lin_search_hint.Dir.{Dir}
+use Rattle.lookup.specs.declared.lin_search_hint.Dir.the-variants.{Unk, Fwd, Bwd}
 use Rattle.lookup.specs.declared.path_res_coeff.PathResCoeff.{PathResCoeff}
 use Rattle.lookup.specs.Coeff.{noCoeff, standsAt, offsetAt}
-use Rattle.lookup.specs.Search.{countBefore, forwards, lastNotAfter}
+use Rattle.lookup.specs.Search.{countBefore, forwards, lastNotAfter, searched, inRange, hintAllowed}
+use Rattle.lookup.specs.CalcIdx.{Indexed, doneAt, refused, findIn}
 
 -- ---- how many records at the front are before x
 count-le : (x : Float) (rs : List PathResCoeff) → countBefore x rs ≤ length rs
@@ -132,3 +136,26 @@ module _ (at : ℕ → Float) (x : Float) where
       pick : (b : Bool) → Ieee.lt x (at (suc i)) ≡ b → T (not (Ieee.lt x (at (lastNotAfter at x i)))) → T (not (Ieee.lt x (at (cond b (lastNotAfter at x i) (suc i)))))
       pick true e more = more
       pick false e more = of-false e
+
+-- ---- either way: a search that is done ends at an index of the list
+forward-within : (x : Float) (hint : ℕ) (rs : List PathResCoeff) → Ieee.le x (offsetAt rs (length rs - 1)) ≡ true → ltb (suc hint) (length rs) ≡ true → forwards x hint rs < length rs
+forward-within x hint rs e f = omega (arith, forward-below x hint rs (ltb-true (suc hint) (length rs) f) (of-true e))
+
+searched-below : (dir : Dir) (x : Float) (hint : ℕ) (rs : List PathResCoeff) → inRange dir x rs ≡ true → hintAllowed dir hint rs ≡ true → searched dir x hint rs < length rs
+unfolding searched inRange hintAllowed
+searched-below Unk x hint rs e f = forward-within x hint rs e f
+searched-below Fwd x hint rs e f = forward-within x hint rs e f
+searched-below Bwd x hint rs e f = omega (arith, backward-to (offsetAt rs) x hint, ltb-true hint (length rs) f)
+
+-- done at an index below n
+abbrev pub FoundBelow : ℕ → Indexed → Type 0
+FoundBelow n f = f .number ≡ 0 → (f ≡ doneAt (f .index)) × (f .index < n)
+
+pub found-below : (dir : Dir) (x : Float) (hint : ℕ) (rs : List PathResCoeff) → FoundBelow (length rs) (findIn dir x hint rs)
+unfolding findIn
+found-below dir x hint rs = go (inRange dir x rs) refl (hintAllowed dir hint rs) refl
+  where
+    go : (a : Bool) → inRange dir x rs ≡ a → (b : Bool) → hintAllowed dir hint rs ≡ b → FoundBelow (length rs) (cond a (cond b (doneAt (searched dir x hint rs)) (refused 11)) (refused 10))
+    go true e true f z = (refl, searched-below dir x hint rs e f)
+    go true e false f z = absurd (omega arith)
+    go false e b f z = absurd (omega arith)

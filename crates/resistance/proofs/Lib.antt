@@ -1,1 +1,5 @@
 -- Laws of the definitions.
+pub mod Answered
+pub mod ListSteps
+pub mod PointSteps
+pub mod StrapSteps

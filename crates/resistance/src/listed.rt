@@ -19,18 +19,21 @@ ghost use Rattle.lookup.specs.CalcIdx.{indexed};
 ghost use Rattle.resistance.specs.Listed as spec;
 
 // The answer of a search, with the index found; 0 for a refusal.
+#[repr(C)]
 pub struct Searched {
     pub answer: Answer,
     pub idx: usize,
 }
 
 // An answer with a coefficient.
+#[repr(C)]
 pub struct CoeffAnswer {
     pub answer: Answer,
     pub res_coeff: Ratio,
 }
 
 // An answer with a net value.
+#[repr(C)]
 pub struct NetAnswer {
     pub answer: Answer,
     pub res_net: Length,
@@ -53,7 +56,7 @@ pub fn list_answer(col: &[f64], n: usize, also: bool) -> Answer
 }
 
 // The number of a search's answer, and its index.
-fn searched(found: Found) -> Searched
+pub fn answer_of(found: Found) -> Searched
     ensures { λ r. ⌜ r ≡ spec.searchedOf (indexed found) ⌝ }
 {
     match found {
@@ -86,7 +89,7 @@ pub fn search(col: &[f64], n: usize, x: Length, hint: usize, dir: Dir) -> Search
     requires { ⌜ 3 * n ≤ length (now col) ⌝ }
     ensures { λ r. ⌜ r ≡ spec.search dir (x .0) hint (coeffs n (now (col .entry))) ⌝ }
 {
-    searched(find(col, n, x, hint, dir))
+    answer_of(find(col, n, x, hint, dir))
 }
 
 // The coefficient of record idx of a list: questions 1, 2 and 11.

@@ -22,17 +22,20 @@ ghost use Rattle.resistance.specs.Listed.{resCoeffOf, resNetOf};
 ghost use Rattle.resistance.specs.Point as spec;
 
 // The index of the train's middle in a list.
+#[repr(C)]
 pub struct Point {
     pub idx: usize,
 }
 
 // An answer with the record of a point.
+#[repr(C)]
 pub struct PointAnswer {
     pub answer: Answer,
     pub point: Point,
 }
 
 // An answer with the record of a point and a force.
+#[repr(C)]
 pub struct PointRes {
     pub answer: Answer,
     pub point: Point,
@@ -62,8 +65,9 @@ pub fn new_known(col: &[f64], n: usize, state: TrainState) -> PointAnswer
     ensures { λ r. ⌜ r ≡ spec.newKnown state (coeffs n (now (col .entry))) ⌝ }
 {
     let s = search_middle(col, n, state, 0, Dir::Fwd);
+    let answer = s.answer;
     PointAnswer {
-        answer: s.answer,
+        answer,
         point: Point { idx: s.idx },
     }
 }

@@ -24,18 +24,21 @@ ghost use Rattle.resistance.specs.Listed.{resCoeffOf, resNetOf};
 ghost use Rattle.resistance.specs.Strap as spec;
 
 // The indices of the train's front and back in a list.
+#[repr(C)]
 pub struct Strap {
     pub idx_front: usize,
     pub idx_back: usize,
 }
 
 // An answer with the record of a strap.
+#[repr(C)]
 pub struct StrapAnswer {
     pub answer: Answer,
     pub strap: Strap,
 }
 
 // An answer with the record of a strap and a force.
+#[repr(C)]
 pub struct StrapRes {
     pub answer: Answer,
     pub strap: Strap,
@@ -188,7 +191,8 @@ fn calc_res_strap(strap: Strap, col: &[f64], n: usize, state: TrainState) -> Rat
     let front_value = calc_res_val(front, Length(state.offset.0));
     let back = coeff_at(col, strap.idx_back);
     let back_value = calc_res_val(back, Length(state.offset_back.0));
-    Ratio((front_value.0 - back_value.0) / state.length.0)
+    let length = state.length.0;
+    Ratio((front_value.0 - back_value.0) / length)
 }
 
 // A new strap on a list that is known to be sound.

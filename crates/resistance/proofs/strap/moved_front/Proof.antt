@@ -1,0 +1,22 @@
+-- `moved_front`: the search, and then the two indices.
+use Rattle.lookup.specs.Coeff.{coeffs}
+use Rattle.resistance.proofs.StrapSteps.{front-refused, front-found}
+use borrow.Author.Needs.{needs}
+use Rattle.resistance.proofs.strap.moved_front.Statement.{statement}
+use Rattle.resistance.proofs.strap.moved_front.Tie as tie
+
+search-requires : tie.Need-search-requires
+search-requires c κs = search needs
+
+returns : tie.Need-returns
+returns c =
+    let a = c .before .before .before .before .before .args in
+    front-refused (a .dir) (a .strap) (a .state) (coeffs (a .n) (a .col .now)) (a .back) (c .before .before .before .search .ensures) (c .if1 .taken)
+
+returns-2 : tie.Need-returns-2
+returns-2 c =
+    let a = c .before .before .before .before .before .args in
+    front-found (a .dir) (a .strap) (a .state) (coeffs (a .n) (a .col .now)) (a .back) (c .before .before .before .search .ensures) (c .if1 .left)
+
+pub moved-front-spec : {M : Type 1} → statement M
+moved-front-spec = tie.close (tie.spec search-requires returns returns-2)
