@@ -222,3 +222,11 @@ extern "C" {
     pub fn mochaspit_strap_path_tpc_idx_front(strap: Strap) -> usize;
     pub fn mochaspit_strap_fix_cache(strap: Strap, sub: usize) -> StrapAnswer;
 }
+
+// Many lookups in one list. The caller sees to it that `n` is above 0 and that the column holds 3 n entries: `mochaspit_list_answer` done says so.
+#[link(name = "capi", kind = "static")]
+extern "C" {
+    pub fn mochaspit_list_answer(col: *const f64, col_len: usize, n: usize) -> Answer;
+    pub fn mochaspit_strap_new_known(col: *const f64, col_len: usize, n: usize, state: TrainState) -> StrapAnswer;
+    pub fn mochaspit_strap_calc_res_known(strap: Strap, col: *const f64, col_len: usize, n: usize, state: TrainState, dir: u32) -> StrapRes;
+}
