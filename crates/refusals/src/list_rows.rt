@@ -1,9 +1,6 @@
 // Searches in a list of three records, and the resistance of a train on it.
-use crate::say::answer;
-use crate::say::count;
-use crate::say::end;
-use crate::say::number;
-use crate::say::text;
+use crate::answers::answer;
+use crate::answers::thousandths;
 use lookup::calc_idx::calc_idx;
 use lookup::lin_search_hint::Dir;
 use resistance::listed::CoeffAnswer;
@@ -15,6 +12,8 @@ use resistance::point::PointRes;
 use resistance::strap::Strap;
 use resistance::strap::StrapAnswer;
 use resistance::strap::StrapRes;
+use show::count;
+use show::say;
 use si::Force;
 use si::Length;
 use train::train_state::TrainState;
@@ -66,103 +65,104 @@ fn other_train(front: f64, back: f64, length: f64, weight: f64) -> TrainState {
 }
 
 fn search(name: &[u8], col: &[f64], n: usize, x: f64, hint: usize, dir: Dir) {
-    text(name);
+    say(name);
     let s = answer_of(calc_idx(col, n, Length(x), hint, dir));
     answer(s.answer);
     count(s.idx);
-    end();
+    say(b"\n");
+}
+
+fn search_rows(l: &[f64], b: &[f64]) {
+    search(b"calc_idx Fwd", l, 3, 101.0, 0, Dir::Fwd);
+    search(b"calc_idx Unk", l, 3, 101.0, 0, Dir::Unk);
+    search(b"calc_idx Bwd", l, 3, 100.0, 2, Dir::Bwd);
+    search(b"calc_idx, offset NaN", l, 3, 0.0 / 0.0, 0, Dir::Fwd);
+    search(b"calc_idx, record not finite", b, 3, 50.0, 0, Dir::Fwd);
+    search(b"calc_idx, no record", l, 0, 50.0, 0, Dir::Fwd);
+    search(b"calc_idx, column short", l, 4, 50.0, 0, Dir::Fwd);
+    search(b"calc_idx, past the last", l, 3, 251.0, 0, Dir::Fwd);
+    search(b"calc_idx, before the first", l, 3, -1.0, 2, Dir::Bwd);
+    search(b"calc_idx Fwd, last index", l, 3, 50.0, 2, Dir::Fwd);
+    search(b"calc_idx Bwd, no index", l, 3, 50.0, 3, Dir::Bwd);
 }
 
 pub fn searches() {
     let l = records();
     let b = broken();
-    search(b"calc_idx Fwd", &l, 3, 101.0, 0, Dir::Fwd);
-    search(b"calc_idx Unk", &l, 3, 101.0, 0, Dir::Unk);
-    search(b"calc_idx Bwd", &l, 3, 100.0, 2, Dir::Bwd);
-    search(b"calc_idx, offset NaN", &l, 3, 0.0 / 0.0, 0, Dir::Fwd);
-    search(b"calc_idx, record not finite", &b, 3, 50.0, 0, Dir::Fwd);
-    search(b"calc_idx, no record", &l, 0, 50.0, 0, Dir::Fwd);
-    search(b"calc_idx, column short", &l, 4, 50.0, 0, Dir::Fwd);
-    search(b"calc_idx, past the last", &l, 3, 251.0, 0, Dir::Fwd);
-    search(b"calc_idx, before the first", &l, 3, -1.0, 2, Dir::Bwd);
-    search(b"calc_idx Fwd, last index", &l, 3, 50.0, 2, Dir::Fwd);
-    search(b"calc_idx Bwd, no index", &l, 3, 50.0, 3, Dir::Bwd);
+    search_rows(&l, &b);
 }
 
 fn say_coeff(name: &[u8], r: CoeffAnswer) {
-    text(name);
+    say(name);
     answer(r.answer);
-    number(r.res_coeff.0);
-    end();
+    thousandths(r.res_coeff.0);
+    say(b"\n");
 }
 
 fn say_net(name: &[u8], r: NetAnswer) {
-    text(name);
+    say(name);
     answer(r.answer);
-    number(r.res_net.0);
-    end();
+    thousandths(r.res_net.0);
+    say(b"\n");
 }
 
 fn say_point(name: &[u8], r: PointAnswer) {
-    text(name);
+    say(name);
     answer(r.answer);
     count(resistance::point::path_tpc_idx_front(r.point));
-    end();
+    say(b"\n");
 }
 
 fn say_point_res(name: &[u8], r: PointRes) {
-    text(name);
+    say(name);
     answer(r.answer);
     let p = r.point;
     count(p.idx);
-    number(r.res.0);
-    end();
+    thousandths(r.res.0);
+    say(b"\n");
 }
 
-fn new_points() {
-    let l = records();
+fn new_points(l: &[f64]) {
     let far = other_train(-1.7e308, 0.0, 1.7e308, 1.0);
     say_point(
         b"Point::new",
-        resistance::point::new(&l, 3, train_at(160.0, 60.0)),
+        resistance::point::new(l, 3, train_at(160.0, 60.0)),
     );
     say_point(
         b"Point::new, length 0",
-        resistance::point::new(&l, 3, other_train(160.0, 60.0, 0.0, 1.0)),
+        resistance::point::new(l, 3, other_train(160.0, 60.0, 0.0, 1.0)),
     );
     say_point(
         b"Point::new, no record",
-        resistance::point::new(&l, 0, train_at(160.0, 60.0)),
+        resistance::point::new(l, 0, train_at(160.0, 60.0)),
     );
     say_point(
         b"Point::new, middle not finite",
-        resistance::point::new(&l, 3, far),
+        resistance::point::new(l, 3, far),
     );
     say_point(
         b"Point::new, past the last",
-        resistance::point::new(&l, 3, train_at(301.0, 201.0)),
+        resistance::point::new(l, 3, train_at(301.0, 201.0)),
     );
     say_point(
         b"Point::new, one record",
-        resistance::point::new(&l, 1, train_at(50.0, -50.0)),
+        resistance::point::new(l, 1, train_at(50.0, -50.0)),
     );
 }
 
-fn point_resistance() {
-    let l = records();
-    let s = steep();
+fn point_resistance(l: &[f64], s: &[f64]) {
     let at = train_at(160.0, 60.0);
     let far = other_train(-1.7e308, 0.0, 1.7e308, 1.0);
     let p = Point { idx: 0 };
     say_point_res(
         b"Point::calc_res",
-        resistance::point::calc_res(p, &l, 3, at, Dir::Fwd),
+        resistance::point::calc_res(p, l, 3, at, Dir::Fwd),
     );
     say_point_res(
         b"Point::calc_res, weight NaN",
         resistance::point::calc_res(
             p,
-            &l,
+            l,
             3,
             other_train(160.0, 60.0, 100.0, 0.0 / 0.0),
             Dir::Fwd,
@@ -170,68 +170,70 @@ fn point_resistance() {
     );
     say_point_res(
         b"Point::calc_res, column short",
-        resistance::point::calc_res(p, &l, 4, at, Dir::Fwd),
+        resistance::point::calc_res(p, l, 4, at, Dir::Fwd),
     );
     say_point_res(
         b"Point::calc_res, middle not finite",
-        resistance::point::calc_res(p, &l, 3, far, Dir::Fwd),
+        resistance::point::calc_res(p, l, 3, far, Dir::Fwd),
     );
     say_point_res(
         b"Point::calc_res, past the last",
-        resistance::point::calc_res(p, &l, 3, train_at(301.0, 201.0), Dir::Unk),
+        resistance::point::calc_res(p, l, 3, train_at(301.0, 201.0), Dir::Unk),
     );
     say_point_res(
         b"Point::calc_res, stale index",
-        resistance::point::calc_res(Point { idx: 7 }, &l, 3, at, Dir::Bwd),
+        resistance::point::calc_res(Point { idx: 7 }, l, 3, at, Dir::Bwd),
     );
     say_point_res(
         b"Point::calc_res, force not finite",
-        resistance::point::calc_res(p, &s, 3, other_train(160.0, 60.0, 100.0, 1e10), Dir::Fwd),
+        resistance::point::calc_res(p, s, 3, other_train(160.0, 60.0, 100.0, 1e10), Dir::Fwd),
     );
 }
 
-fn point_records() {
-    let l = records();
-    let b = broken();
-    let s = steep();
-    let at = train_at(160.0, 60.0);
+fn point_coeffs(l: &[f64], b: &[f64]) {
     let p = Point { idx: 1 };
     let past = Point { idx: 3 };
     say_coeff(
         b"Point::res_coeff_front",
-        resistance::point::res_coeff_front(p, &l, 3),
+        resistance::point::res_coeff_front(p, l, 3),
     );
     say_coeff(
         b"Point::res_coeff_front, record not finite",
-        resistance::point::res_coeff_front(p, &b, 3),
+        resistance::point::res_coeff_front(p, b, 3),
     );
     say_coeff(
         b"Point::res_coeff_front, no record",
-        resistance::point::res_coeff_front(p, &l, 0),
+        resistance::point::res_coeff_front(p, l, 0),
     );
     say_coeff(
         b"Point::res_coeff_front, stale index",
-        resistance::point::res_coeff_front(past, &l, 3),
+        resistance::point::res_coeff_front(past, l, 3),
     );
+}
+
+fn point_nets(l: &[f64], b: &[f64], s: &[f64]) {
+    let at = train_at(160.0, 60.0);
+    let p = Point { idx: 1 };
+    let past = Point { idx: 3 };
     say_net(
         b"Point::res_net_front",
-        resistance::point::res_net_front(p, &l, 3, at),
+        resistance::point::res_net_front(p, l, 3, at),
     );
     say_net(
         b"Point::res_net_front, length 0",
-        resistance::point::res_net_front(p, &l, 3, other_train(160.0, 60.0, 0.0, 1.0)),
+        resistance::point::res_net_front(p, l, 3, other_train(160.0, 60.0, 0.0, 1.0)),
     );
     say_net(
         b"Point::res_net_front, no record",
-        resistance::point::res_net_front(p, &l, 0, at),
+        resistance::point::res_net_front(p, l, 0, at),
     );
     say_net(
         b"Point::res_net_front, stale index",
-        resistance::point::res_net_front(past, &l, 3, at),
+        resistance::point::res_net_front(past, l, 3, at),
     );
     say_net(
         b"Point::res_net_front, value not finite",
-        resistance::point::res_net_front(p, &s, 3, train_at(1e10, 60.0)),
+        resistance::point::res_net_front(p, s, 3, train_at(1e10, 60.0)),
     );
     say_point(b"Point::fix_cache", resistance::point::fix_cache(p, 1));
     say_point(
@@ -241,60 +243,63 @@ fn point_records() {
 }
 
 pub fn points() {
-    new_points();
-    point_resistance();
-    point_records();
+    let l = records();
+    let b = broken();
+    let s = steep();
+    new_points(&l);
+    point_resistance(&l, &s);
+    point_coeffs(&l, &b);
+    point_nets(&l, &b, &s);
 }
 
 fn say_strap(name: &[u8], r: StrapAnswer) {
-    text(name);
+    say(name);
     answer(r.answer);
     let t = r.strap;
     count(resistance::strap::path_tpc_idx_front(t));
     count(t.idx_back);
-    end();
+    say(b"\n");
 }
 
 fn say_strap_res(name: &[u8], r: StrapRes) {
-    text(name);
+    say(name);
     answer(r.answer);
     let t = r.strap;
     count(t.idx_front);
     count(t.idx_back);
-    number(r.res.0);
-    end();
+    thousandths(r.res.0);
+    say(b"\n");
 }
 
-fn new_straps() {
-    let l = records();
+fn new_straps(l: &[f64]) {
     let far = other_train(-1.7e308, 0.0, 1.7e308, 1.0);
     say_strap(
         b"Strap::new",
-        resistance::strap::new(&l, 3, train_at(160.0, 60.0)),
+        resistance::strap::new(l, 3, train_at(160.0, 60.0)),
     );
     say_strap(
         b"Strap::new, one record",
-        resistance::strap::new(&l, 1, train_at(1e9, 60.0)),
+        resistance::strap::new(l, 1, train_at(1e9, 60.0)),
     );
     say_strap(
         b"Strap::new, front infinite",
-        resistance::strap::new(&l, 3, train_at(1.0 / 0.0, 60.0)),
+        resistance::strap::new(l, 3, train_at(1.0 / 0.0, 60.0)),
     );
     say_strap(
         b"Strap::new, no record",
-        resistance::strap::new(&l, 0, train_at(160.0, 60.0)),
+        resistance::strap::new(l, 0, train_at(160.0, 60.0)),
     );
     say_strap(
         b"Strap::new, back not finite",
-        resistance::strap::new(&l, 3, far),
+        resistance::strap::new(l, 3, far),
     );
     say_strap(
         b"Strap::new, back past the last",
-        resistance::strap::new(&l, 3, train_at(351.0, 251.0)),
+        resistance::strap::new(l, 3, train_at(351.0, 251.0)),
     );
     say_strap(
         b"Strap::new, front past the last",
-        resistance::strap::new(&l, 3, train_at(251.0, 151.0)),
+        resistance::strap::new(l, 3, train_at(251.0, 151.0)),
     );
 }
 
@@ -306,14 +311,12 @@ fn resist(name: &[u8], col: &[f64], n: usize, s: TrainState, front: usize, back:
     say_strap_res(name, resistance::strap::calc_res(t, col, n, s, dir));
 }
 
-fn strap_forwards() {
-    let l = records();
-    let s = steep();
+fn strap_fwd(l: &[f64]) {
     let at = train_at(160.0, 60.0);
-    resist(b"Strap::calc_res Fwd", &l, 3, at, 0, 0, Dir::Fwd);
+    resist(b"Strap::calc_res Fwd", l, 3, at, 0, 0, Dir::Fwd);
     resist(
         b"Strap::calc_res Fwd, one record",
-        &l,
+        l,
         3,
         train_at(90.0, -10.0),
         0,
@@ -322,7 +325,7 @@ fn strap_forwards() {
     );
     resist(
         b"Strap::calc_res Fwd, back not finite",
-        &l,
+        l,
         3,
         train_at(160.0, 0.0 / 0.0),
         0,
@@ -331,16 +334,20 @@ fn strap_forwards() {
     );
     resist(
         b"Strap::calc_res Fwd, column short",
-        &l,
+        l,
         4,
         at,
         0,
         0,
         Dir::Fwd,
     );
+}
+
+fn strap_fwd_front(l: &[f64]) {
+    let at = train_at(160.0, 60.0);
     resist(
         b"Strap::calc_res Fwd, front past the last",
-        &l,
+        l,
         3,
         train_at(251.0, 151.0),
         0,
@@ -349,16 +356,20 @@ fn strap_forwards() {
     );
     resist(
         b"Strap::calc_res Fwd, stale front",
-        &l,
+        l,
         3,
         at,
         2,
         0,
         Dir::Fwd,
     );
+}
+
+fn strap_fwd_back(l: &[f64], s: &[f64]) {
+    let at = train_at(160.0, 60.0);
     resist(
         b"Strap::calc_res Fwd, back past the last",
-        &l,
+        l,
         3,
         train_at(160.0, 251.0),
         0,
@@ -367,7 +378,7 @@ fn strap_forwards() {
     );
     resist(
         b"Strap::calc_res Fwd, stale back",
-        &l,
+        l,
         3,
         at,
         0,
@@ -376,7 +387,7 @@ fn strap_forwards() {
     );
     resist(
         b"Strap::calc_res Fwd, stale back not searched",
-        &l,
+        l,
         3,
         train_at(90.0, 1e9),
         0,
@@ -385,7 +396,7 @@ fn strap_forwards() {
     );
     resist(
         b"Strap::calc_res Fwd, force not finite",
-        &s,
+        s,
         3,
         other_train(160.0, 60.0, 100.0, 1e10),
         0,
@@ -394,40 +405,23 @@ fn strap_forwards() {
     );
 }
 
-fn strap_other_ways() {
-    let l = records();
+fn strap_bwd(l: &[f64]) {
     let at = train_at(160.0, 60.0);
-    resist(b"Strap::calc_res Bwd", &l, 3, at, 2, 2, Dir::Bwd);
-    resist(
-        b"Strap::calc_res Bwd, one record",
-        &l,
-        3,
-        at,
-        0,
-        2,
-        Dir::Bwd,
-    );
+    resist(b"Strap::calc_res Bwd", l, 3, at, 2, 2, Dir::Bwd);
+    resist(b"Strap::calc_res Bwd, one record", l, 3, at, 0, 2, Dir::Bwd);
     resist(
         b"Strap::calc_res Bwd, back before the first",
-        &l,
+        l,
         3,
         train_at(90.0, -10.0),
         2,
         2,
         Dir::Bwd,
     );
-    resist(
-        b"Strap::calc_res Bwd, stale back",
-        &l,
-        3,
-        at,
-        2,
-        3,
-        Dir::Bwd,
-    );
+    resist(b"Strap::calc_res Bwd, stale back", l, 3, at, 2, 3, Dir::Bwd);
     resist(
         b"Strap::calc_res Bwd, front before the first",
-        &l,
+        l,
         3,
         train_at(-10.0, 60.0),
         2,
@@ -436,17 +430,21 @@ fn strap_other_ways() {
     );
     resist(
         b"Strap::calc_res Bwd, stale front",
-        &l,
+        l,
         3,
         at,
         3,
         2,
         Dir::Bwd,
     );
-    resist(b"Strap::calc_res Unk", &l, 3, at, 0, 0, Dir::Unk);
+}
+
+fn strap_unk(l: &[f64]) {
+    let at = train_at(160.0, 60.0);
+    resist(b"Strap::calc_res Unk", l, 3, at, 0, 0, Dir::Unk);
     resist(
         b"Strap::calc_res Unk, front past the last",
-        &l,
+        l,
         3,
         train_at(251.0, 60.0),
         0,
@@ -455,28 +453,17 @@ fn strap_other_ways() {
     );
     resist(
         b"Strap::calc_res Unk, stale front and back past the last",
-        &l,
+        l,
         3,
         train_at(160.0, 251.0),
         2,
         0,
         Dir::Unk,
     );
-    resist(
-        b"Strap::calc_res Unk, stale back",
-        &l,
-        3,
-        at,
-        0,
-        2,
-        Dir::Unk,
-    );
+    resist(b"Strap::calc_res Unk, stale back", l, 3, at, 0, 2, Dir::Unk);
 }
 
-fn strap_records() {
-    let l = records();
-    let s = steep();
-    let at = train_at(160.0, 60.0);
+fn strap_front_coeffs(l: &[f64], b: &[f64]) {
     let t = Strap {
         idx_front: 1,
         idx_back: 0,
@@ -487,36 +474,124 @@ fn strap_records() {
     };
     say_coeff(
         b"Strap::res_coeff_front",
-        resistance::strap::res_coeff_front(t, &l, 3),
+        resistance::strap::res_coeff_front(t, l, 3),
+    );
+    say_coeff(
+        b"Strap::res_coeff_front, record not finite",
+        resistance::strap::res_coeff_front(t, b, 3),
+    );
+    say_coeff(
+        b"Strap::res_coeff_front, no record",
+        resistance::strap::res_coeff_front(t, l, 0),
     );
     say_coeff(
         b"Strap::res_coeff_front, stale index",
-        resistance::strap::res_coeff_front(past, &l, 3),
+        resistance::strap::res_coeff_front(past, l, 3),
     );
+}
+
+fn strap_back_coeffs(l: &[f64], b: &[f64]) {
+    let t = Strap {
+        idx_front: 1,
+        idx_back: 0,
+    };
+    let past = Strap {
+        idx_front: 3,
+        idx_back: 5,
+    };
     say_coeff(
         b"Strap::res_coeff_back",
-        resistance::strap::res_coeff_back(t, &l, 3),
+        resistance::strap::res_coeff_back(t, l, 3),
+    );
+    say_coeff(
+        b"Strap::res_coeff_back, record not finite",
+        resistance::strap::res_coeff_back(t, b, 3),
+    );
+    say_coeff(
+        b"Strap::res_coeff_back, no record",
+        resistance::strap::res_coeff_back(t, l, 0),
     );
     say_coeff(
         b"Strap::res_coeff_back, stale index",
-        resistance::strap::res_coeff_back(past, &l, 3),
+        resistance::strap::res_coeff_back(past, l, 3),
     );
+}
+
+fn strap_front_nets(l: &[f64], s: &[f64]) {
+    let at = train_at(160.0, 60.0);
+    let short = other_train(160.0, 60.0, 0.0, 1.0);
+    let t = Strap {
+        idx_front: 1,
+        idx_back: 0,
+    };
+    let past = Strap {
+        idx_front: 3,
+        idx_back: 5,
+    };
     say_net(
         b"Strap::res_net_front",
-        resistance::strap::res_net_front(t, &l, 3, at),
+        resistance::strap::res_net_front(t, l, 3, at),
+    );
+    say_net(
+        b"Strap::res_net_front, length 0",
+        resistance::strap::res_net_front(t, l, 3, short),
+    );
+    say_net(
+        b"Strap::res_net_front, no record",
+        resistance::strap::res_net_front(t, l, 0, at),
     );
     say_net(
         b"Strap::res_net_front, stale index",
-        resistance::strap::res_net_front(past, &l, 3, at),
+        resistance::strap::res_net_front(past, l, 3, at),
     );
     say_net(
+        b"Strap::res_net_front, value not finite",
+        resistance::strap::res_net_front(t, s, 3, train_at(1e10, 60.0)),
+    );
+}
+
+fn strap_back_nets(l: &[f64], s: &[f64]) {
+    let at = train_at(160.0, 60.0);
+    let short = other_train(160.0, 60.0, 0.0, 1.0);
+    let t = Strap {
+        idx_front: 1,
+        idx_back: 0,
+    };
+    let past = Strap {
+        idx_front: 3,
+        idx_back: 5,
+    };
+    say_net(
         b"Strap::res_net_back",
-        resistance::strap::res_net_back(t, &l, 3, at),
+        resistance::strap::res_net_back(t, l, 3, at),
+    );
+    say_net(
+        b"Strap::res_net_back, length 0",
+        resistance::strap::res_net_back(t, l, 3, short),
+    );
+    say_net(
+        b"Strap::res_net_back, no record",
+        resistance::strap::res_net_back(t, l, 0, at),
+    );
+    say_net(
+        b"Strap::res_net_back, stale index",
+        resistance::strap::res_net_back(past, l, 3, at),
     );
     say_net(
         b"Strap::res_net_back, value not finite",
-        resistance::strap::res_net_back(t, &s, 3, train_at(160.0, 1e10)),
+        resistance::strap::res_net_back(t, s, 3, train_at(160.0, 1e10)),
     );
+}
+
+fn strap_caches() {
+    let t = Strap {
+        idx_front: 1,
+        idx_back: 0,
+    };
+    let past = Strap {
+        idx_front: 3,
+        idx_back: 5,
+    };
     say_strap(b"Strap::fix_cache", resistance::strap::fix_cache(past, 3));
     say_strap(
         b"Strap::fix_cache, front below 0",
@@ -529,8 +604,18 @@ fn strap_records() {
 }
 
 pub fn straps() {
-    new_straps();
-    strap_forwards();
-    strap_other_ways();
-    strap_records();
+    let l = records();
+    let b = broken();
+    let s = steep();
+    new_straps(&l);
+    strap_fwd(&l);
+    strap_fwd_front(&l);
+    strap_fwd_back(&l, &s);
+    strap_bwd(&l);
+    strap_unk(&l);
+    strap_front_coeffs(&l, &b);
+    strap_back_coeffs(&l, &b);
+    strap_front_nets(&l, &s);
+    strap_back_nets(&l, &s);
+    strap_caches();
 }

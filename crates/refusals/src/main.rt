@@ -1,7 +1,7 @@
 // Searches, resistance and positions: each call done, and refused by each of its questions, printed as the code answers.
 mod list_rows; // searches, Point and Strap
 mod position_rows; // positions on a path
-mod say; // what is printed
+mod answers; // an answer as it is printed
 
 fn main() {
     list_rows::searches();

@@ -1,11 +1,10 @@
-// Positions on a path of one link, number 7, from 0 to 250: row G1 and every refusal.
+// Positions on a path of one link, number 7: row G1 and every refusal.
+use crate::answers::answer;
+use crate::answers::thousandths;
 use crate::list_rows::train_at;
-use crate::say::answer;
-use crate::say::count;
-use crate::say::end;
-use crate::say::number;
-use crate::say::text;
 use path::path_tpc::PathTpc;
+use show::count;
+use show::say;
 use si::Force;
 use si::Length;
 use train::set_link_and_offset::StateAnswer;
@@ -26,13 +25,13 @@ fn marked(s: TrainState) -> TrainState {
 }
 
 fn say_state(name: &[u8], r: StateAnswer) {
-    text(name);
+    say(name);
     answer(r.answer);
     let s = r.state;
     count(s.link_idx_front as usize);
     count(s.link_idx_back as usize);
-    number(s.offset_in_link.0);
-    end();
+    thousandths(s.offset_in_link.0);
+    say(b"\n");
 }
 
 fn counts(links: usize) -> PathTpc {
@@ -46,11 +45,11 @@ fn counts(links: usize) -> PathTpc {
     }
 }
 
-// The position on the link whose beginning is at the offset first.
-fn locate(name: &[u8], s: TrainState, first: f64, links: usize) {
-    let offsets = [first, 250.0];
+// The position on a link from first to last.
+fn locate(name: &[u8], s: TrainState, first: f64, last: f64, links: usize) {
+    let offsets = [first, last];
     let numbers = [1u32, 1, 0, 7, 0, 0, 0, 7];
-    let records = [first, 0.0, 0.0, 250.0, 0.0, 0.0];
+    let records = [first, 0.0, 0.0, last, 0.0, 0.0];
     let speeds = [first, 30.0];
     let none = [0.0f64; 0];
     let no_district = [0u32; 0];
@@ -70,34 +69,70 @@ fn locate(name: &[u8], s: TrainState, first: f64, links: usize) {
     );
 }
 
-pub fn positions() {
-    locate(b"G1", train_at(250.0, 150.0), 0.0, 2);
-    locate(b"position, inside the link", train_at(240.0, 140.0), 0.0, 2);
-    locate(b"position, past the end", train_at(260.0, 250.0), 0.0, 2);
-    locate(b"position, front NaN", train_at(0.0 / 0.0, 150.0), 0.0, 2);
+fn refused_path() {
+    locate(
+        b"position, front NaN",
+        train_at(0.0 / 0.0, 150.0),
+        0.0,
+        250.0,
+        2,
+    );
     locate(
         b"position, path not finite",
         train_at(250.0, 150.0),
         0.0 - 1.0 / 0.0,
+        250.0,
         2,
     );
-    locate(b"position, path not sound", train_at(250.0, 150.0), 0.0, 3);
+    locate(
+        b"position, path not sound",
+        train_at(250.0, 150.0),
+        0.0,
+        250.0,
+        3,
+    );
+}
+
+fn refused() {
     locate(
         b"position, front before the path",
         train_at(-1.0, 0.0),
         0.0,
+        250.0,
         2,
     );
     locate(
         b"position, back before the path",
         train_at(10.0, -1.0),
         0.0,
+        250.0,
         2,
     );
     locate(
         b"position, offset in link not finite",
-        train_at(249.0, 0.0),
-        -1.7976931348623157e308,
+        train_at(9e307, 0.0),
+        -1.7e308,
+        1e308,
         2,
     );
+}
+
+pub fn positions() {
+    locate(b"G1", train_at(250.0, 150.0), 0.0, 250.0, 2);
+    locate(
+        b"position, inside the link",
+        train_at(240.0, 140.0),
+        0.0,
+        250.0,
+        2,
+    );
+    locate(
+        b"position, past the end",
+        train_at(260.0, 250.0),
+        0.0,
+        250.0,
+        2,
+    );
+    refused_path();
+    refused();
 }

@@ -8,27 +8,13 @@ use path::link_point::LinkPoint;
 use path::path_tpc::Answer;
 use path::path_tpc::PathTpc;
 use path_trim::clear::clear;
+use show::count;
+use show::number;
+use show::say;
 use si::Length;
 use si::Velocity;
 use speed::insert_speed::insert_speed;
 use speed::speed_limit::SpeedLimit;
-
-fn say(text: &[u8]) {
-    io::write_all(STDOUT_FILENO, text);
-}
-
-// A whole number with its sign, or a question mark.
-fn number(x: f64) {
-    if ieee::is_negative(x) {
-        say(b"-");
-    }
-    let m = ieee::size(x);
-    if m < 1000000.0 {
-        io::print_decimal(STDOUT_FILENO, std::num::truncating_f64_to_u64(m));
-    } else {
-        say(b"?");
-    }
-}
 
 fn point(p: Two) {
     say(b" (");
@@ -130,11 +116,6 @@ fn refusal(a: Answer) {
         say(b" refused with ");
         io::print_decimal(STDOUT_FILENO, a.number as u64);
     }
-}
-
-fn count(n: usize) {
-    say(b" ");
-    io::print_decimal(STDOUT_FILENO, n as u64);
 }
 
 // The grades, curves and power limits that went.

@@ -1,4 +1,4 @@
--- `number`: a size below a million is above -1 and below 2 ^ 64.
+-- `number`: a size below a thousand million is above -1 and below 2 ^ 64.
 use mathlib.Core.Path.{_≡_, subst}
 use mathlib.Core.Bool.{true, false}
 use lib.Dec.{T}
@@ -8,8 +8,8 @@ use Rattle.ieee.specs.Number.{real, size, zeroOf}
 use Rattle.ieee.proofs.Order.{of-true, lt-le-trans, lt-trans, lt-real-l}
 use Rattle.ieee.proofs.Sizes.{size-nonneg, real-size}
 use borrow.Author.Needs.{needs}
-use Rattle.rows.proofs.number.Statement.{statement}
-use Rattle.rows.proofs.number.Tie as tie
+use Rattle.show.proofs.number.Statement.{statement}
+use Rattle.show.proofs.number.Tie as tie
 
 is-negative-requires : tie.Need-is-negative-requires
 is-negative-requires c κs = search needs
@@ -23,9 +23,9 @@ say-requires c κs = search needs
 size-requires : tie.Need-size-requires
 size-requires c κs = search needs
 
-million : T (lt (ofBits binary64 4696837146684686336) (fin false 1 (pos 64)))
+billion : T (lt (ofBits binary64 4741671816366391296) (fin false 1 (pos 64)))
 unfolding lt ofBits
-million = tt
+billion = tt
 
 above : (x m : Float) → T (real x) → m ≡ size x → T (lt (fin true 1 (pos 0)) m)
 above x m r e =
@@ -37,9 +37,9 @@ truncating-f64-to-u64-requires c κs =
     let x = c .before .before .before .before .args .x in
     let m = c .before .size .result in
     let e = c .before .size .ensures in
-    let h : T (lt m (ofBits binary64 4696837146684686336)) = of-true (c .if2 .taken) in
-    let r : T (real x) = subst T (real-size x) (subst (λ (y : Float). T (real y)) e (lt-real-l m (ofBits binary64 4696837146684686336) h)) in
-    (above x m r e, lt-trans m (ofBits binary64 4696837146684686336) (fin false 1 (pos 64)) h million)
+    let h : T (lt m (ofBits binary64 4741671816366391296)) = of-true (c .if2 .taken) in
+    let r : T (real x) = subst T (real-size x) (subst (λ (y : Float). T (real y)) e (lt-real-l m (ofBits binary64 4741671816366391296) h)) in
+    (above x m r e, lt-trans m (ofBits binary64 4741671816366391296) (fin false 1 (pos 64)) h billion)
 
 print-decimal-requires : tie.Need-print-decimal-requires
 print-decimal-requires c κs = search needs

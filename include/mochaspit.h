@@ -1,0 +1,587 @@
+/*
+ * Mochaspit: the path that a train runs on, with its speed limits, grades and curves.
+ *
+ * A path is a record of counts, mochaspit_path_tpc, and seven columns that the caller lends to each call and keeps with the record.
+ * Links come from a link table, ten columns that calls only read. Records travel by value. No call allocates, keeps a pointer, or
+ * has state of its own: calls on different columns may run at once.
+ *
+ * Units: metres, metres a second, kilograms, newtons, watts and radians, as doubles. The processor must round to nearest and keep
+ * subnormal numbers, as it does unless a program asks for something else.
+ *
+ * Link with libcapi.a, which `rt staticlib capi` writes to target/staticlib (x86-64, System V calling convention), and with the C
+ * library's mathematics: -lcapi -lm.
+ *
+ *
+ * ANSWERS
+ *
+ * Every call puts its questions in a fixed order, each over the whole input before the next. The first one that is answered with no
+ * gives the number of the answer. Any numbers may be handed in, but for the two calls at the end of this file. Numbers:
+ *
+ *    0  done
+ *    1  a number that was handed in is not finite, a train has no length, its top speed is below 0, or a code is unknown
+ *    2  the path does not hold together: its counts, offsets or link numbers disagree; or a list to be searched is empty
+ *    3  the path is finished: nothing can be joined to it
+ *    4  a link number is 0 or not in the table; for new numbers: there is none for a link, or it is 0
+ *    5  a link does not follow the link before it
+ *    6  a link of the table is not well formed
+ *    7  a link has no speed set for this train
+ *    8  a sum, product or quotient is too large, or a link's end is not beyond its beginning
+ *    9  the records do not fit in the columns
+ *   10  the offset lies outside the path or the list; there is no such link
+ *   11  the index to start from is not in the list; fewer records lie before an index than are to be taken off
+ *   12  the path has no link to drop
+ *
+ * The place is, for 4 to 8 of mochaspit_extend, the first failing position in the list of links, from 0; for mochaspit_recalc_speeds
+ * and mochaspit_reindex the index of the link point; otherwise 0.
+ *
+ * A refused call leaves every column and every record as it came, and has 0 for each value that was asked for.
+ *
+ *
+ * COLUMNS
+ *
+ * A column is two arguments, a pointer and the number of entries. The pointer must not be NULL, also where the length is 0, and must
+ * be aligned for its entries. The length may be 0. Columns lent to be written must overlap neither each other nor anything that the
+ * same call reads. Entries may hold anything, NaN included: a call refuses what it cannot use.
+ *
+ * A path's columns, with the entries of a record side by side. A column that is shorter than its bound is the bound, a longer one
+ * does not raise it, and of two columns of one kind the shorter counts:
+ *
+ *   column     a record is                                            entries   records at most
+ *   offsets    link point: offset                                        1           1,025
+ *   numbers    link point: count of grades, of curves, of power
+ *              limits, link number                                       4           1,025
+ *   grades     offset, coefficient, net value                            3          16,384
+ *   curves     offset, coefficient, net value                            3          16,384
+ *   speeds     speed point: offset, speed                                2           4,096
+ *   powers     power limit: start, end, power                            3           1,024
+ *   districts  power limit: district number, 0 for none                  1           1,024
+ *
+ * Link k begins at link point k; the last link point is the path's end and has the last link's number (0 on a path without links).
+ * The speed posted at an offset is that of the last speed point at or before it. A done call that may change a path leaves zeros in
+ * every column from the counts to its end.
+ *
+ * The link table. Links are numbered from 1; the entries of number 0 belong to no link and may hold anything. Entries of link i:
+ *
+ *   links      11 entries from 11 * i on: own number (i), the next link, the other next one, the one before, the other one before
+ *              (0 for none); first record and count of its elevations, of its headings and of its power limits in their pools
+ *   lengths    1 entry: the length, above 0
+ *   sets       48 entries from 48 * i on: eight places of six entries. Place 0 is the single set, place 1 + T the set for train
+ *              type T; a single set serves every train. Entries of a place: present (0 or 1), head end (0 or 1), first record and
+ *              count of its conditions, first record and count of its limits. Of a place without a set only "present" is read
+ *
+ * The pools, shared by all links; a first record and a count must lie inside them:
+ *
+ *   elevs      offset, elevation             2 entries: none or at least two records, rising strictly from 0 to the link's length
+ *   headings   offset, heading in radians    2 entries: the same
+ *   limits     start, end, speed             3 entries, 0 <= start <= end, from the link's beginning
+ *   codes      kind, comparison              2 entries of a condition: what the train is asked for, and how. At most 64 a set
+ *   values     limit value                   1 entry of the same condition
+ *   pool       power limit: start, end, power  3 entries, 0 <= start <= end
+ *   regions    power limit: district number    1 entry
+ *
+ * A set applies if each of its conditions holds. Its limits below the top speed are laid from start to end; if the set is no
+ * head-end set, the train's length is added to the end.
+ */
+#ifndef MOCHASPIT_H
+#define MOCHASPIT_H
+
+#include <stdbool.h>
+#include <stddef.h>
+#include <stdint.h>
+
+#ifdef __cplusplus
+extern "C" {
+#endif
+
+/* ---- bounds and codes */
+
+/* records at most */
+#define MOCHASPIT_LINK_POINTS 1025
+#define MOCHASPIT_GRADES 16384
+#define MOCHASPIT_CURVES 16384
+#define MOCHASPIT_SPEED_POINTS 4096
+#define MOCHASPIT_POWER_LIMITS 1024
+#define MOCHASPIT_CONDITIONS 64
+
+/* entries of a path's record, in columns where they are more than one */
+#define MOCHASPIT_NUMBERS_WIDTH 4
+#define MOCHASPIT_COEFF_WIDTH 3
+#define MOCHASPIT_SPEED_WIDTH 2
+#define MOCHASPIT_POWER_WIDTH 3
+
+/* entries of a link in links and sets, and of a set place */
+#define MOCHASPIT_LINK_WIDTH 11
+#define MOCHASPIT_SETS_WIDTH 48
+#define MOCHASPIT_SET_WIDTH 6
+
+/* Directions of a search. Any other code is refused with number 1, place 0. */
+enum {
+    MOCHASPIT_DIR_UNKNOWN = 0,
+    MOCHASPIT_DIR_FORWARDS = 1,
+    MOCHASPIT_DIR_BACKWARDS = 2
+};
+
+/* Train types. Any other code in a train is refused with number 1, place 0. */
+enum {
+    MOCHASPIT_TYPE_NONE = 0,
+    MOCHASPIT_TYPE_FREIGHT = 1,
+    MOCHASPIT_TYPE_PASSENGER = 2,
+    MOCHASPIT_TYPE_INTERMODAL = 3,
+    MOCHASPIT_TYPE_HIGH_SPEED_PASSENGER = 4,
+    MOCHASPIT_TYPE_TILT_TRAIN = 5,
+    MOCHASPIT_TYPE_COMMUTER = 6
+};
+
+/* Kinds of a condition: which figure of the train is compared. A value for axles is cut to a whole number from 0 to 4294967295. */
+enum {
+    MOCHASPIT_KIND_TOTAL_MASS = 3,
+    MOCHASPIT_KIND_MASS_PER_BRAKE = 4,
+    MOCHASPIT_KIND_AXLES = 5
+};
+
+/* Comparisons of a condition: the train's figure on the left, the limit value on the right. */
+enum {
+    MOCHASPIT_COMPARE_EQUAL = 1,
+    MOCHASPIT_COMPARE_ABOVE = 2,
+    MOCHASPIT_COMPARE_BELOW = 3,
+    MOCHASPIT_COMPARE_NOT_BELOW = 4,
+    MOCHASPIT_COMPARE_NOT_ABOVE = 5
+};
+
+/* ---- records */
+
+/* What a call answers: 0 and 0 for done, or the number of the refusal and its place. */
+typedef struct mochaspit_answer {
+    uint32_t number;
+    size_t place;
+} mochaspit_answer;
+
+/* A path: how many records its columns hold, link points with the end point, and whether it is finished. */
+typedef struct mochaspit_path_tpc {
+    size_t link_count;
+    size_t grade_count;
+    size_t curve_count;
+    size_t speed_count;
+    size_t power_count;
+    bool is_finished;
+} mochaspit_path_tpc;
+
+/* An answer, and the path's record after the call. */
+typedef struct mochaspit_path_answer {
+    mochaspit_answer answer;
+    mochaspit_path_tpc path;
+} mochaspit_path_answer;
+
+/* A link point. In the answer of mochaspit_clear: counts alone, offset and number 0. */
+typedef struct mochaspit_link_point {
+    double offset;
+    size_t grade_count;
+    size_t curve_count;
+    size_t cat_power_count;
+    uint32_t link_idx;
+} mochaspit_link_point;
+
+/* What mochaspit_clear answers: dropped has the grade, curve and power counts of the links that went. */
+typedef struct mochaspit_clear_answer {
+    mochaspit_path_answer outcome;
+    mochaspit_link_point dropped;
+} mochaspit_clear_answer;
+
+/* A train: length, top speed, masses, curve coefficients, axles, and the code of its type. */
+typedef struct mochaspit_train {
+    double length;
+    double speed_max;
+    double towed_mass_static;
+    double mass_per_brake;
+    double curve_coeff_0;
+    double curve_coeff_1;
+    double curve_coeff_2;
+    uint32_t axle_count;
+    uint32_t train_type;
+} mochaspit_train;
+
+/* Where a train stands: offsets of its front and back on the path, length, weight in newtons; the links of front and back and the
+ * front's distance from the beginning of its link, which mochaspit_set_link_and_offset writes. */
+typedef struct mochaspit_train_state {
+    double offset;
+    double offset_back;
+    double length;
+    double weight_static;
+    uint32_t link_idx_front;
+    uint32_t link_idx_back;
+    double offset_in_link;
+} mochaspit_train_state;
+
+/* An answer, and the position after the call. */
+typedef struct mochaspit_state_answer {
+    mochaspit_answer answer;
+    mochaspit_train_state state;
+} mochaspit_state_answer;
+
+/* Entries of a column: len of them, the first at from. */
+typedef struct mochaspit_range {
+    size_t from;
+    size_t len;
+} mochaspit_range;
+
+/* An answer with a range. */
+typedef struct mochaspit_range_answer {
+    mochaspit_answer answer;
+    mochaspit_range range;
+} mochaspit_range_answer;
+
+/* An answer with an index in a list. */
+typedef struct mochaspit_searched {
+    mochaspit_answer answer;
+    size_t idx;
+} mochaspit_searched;
+
+/* An answer with a coefficient. */
+typedef struct mochaspit_coeff_answer {
+    mochaspit_answer answer;
+    double res_coeff;
+} mochaspit_coeff_answer;
+
+/* An answer with a net value, in metres. */
+typedef struct mochaspit_net_answer {
+    mochaspit_answer answer;
+    double res_net;
+} mochaspit_net_answer;
+
+/* Resistance taken at the train's middle: the index of the record it is in. */
+typedef struct mochaspit_point {
+    size_t idx;
+} mochaspit_point;
+
+/* An answer with a point. */
+typedef struct mochaspit_point_answer {
+    mochaspit_answer answer;
+    mochaspit_point point;
+} mochaspit_point_answer;
+
+/* An answer with a point and a force in newtons. */
+typedef struct mochaspit_point_res {
+    mochaspit_answer answer;
+    mochaspit_point point;
+    double res;
+} mochaspit_point_res;
+
+/* Resistance taken over the train's length: the indices of the records that its front and back are in. */
+typedef struct mochaspit_strap {
+    size_t idx_front;
+    size_t idx_back;
+} mochaspit_strap;
+
+/* An answer with a strap. */
+typedef struct mochaspit_strap_answer {
+    mochaspit_answer answer;
+    mochaspit_strap strap;
+} mochaspit_strap_answer;
+
+/* An answer with a strap and a force in newtons. */
+typedef struct mochaspit_strap_res {
+    mochaspit_answer answer;
+    mochaspit_strap strap;
+    double res;
+} mochaspit_strap_res;
+
+/* ---- calls that may change a path; a refused one leaves the columns as they came and answers the record that it was given */
+
+/*
+ * A path without links: one link point, grade and curve record, all zero, and the speed point (0, top speed). What the columns held
+ * before is overwritten.
+ * Questions: 1 of the train; 9, room for one record of each kind but power limits.
+ * Comes back: the record with the counts 1, 1, 1, 1, 0. Refused: the columns as they came, a record of zeros.
+ */
+mochaspit_path_answer mochaspit_new(
+    mochaspit_train train,
+    double *offsets, size_t offsets_len,
+    uint32_t *numbers, size_t numbers_len,
+    double *grades, size_t grades_len,
+    double *curves, size_t curves_len,
+    double *speeds, size_t speeds_len,
+    double *powers, size_t powers_len,
+    uint32_t *districts, size_t districts_len);
+
+/*
+ * Joins the listed links to the path's end, with their limits, grades, curves and power limits. An empty list changes no record.
+ * Questions: 1 of path and train; 2; 3; then of each listed link 4, 5, 6, 7 and 8; 9, where speed points need the present count and
+ * two for each limit laid. The first link of a path need not follow any other.
+ * Comes back: the record with the new counts. Refused: columns and record as they came, none of the links joined.
+ */
+mochaspit_path_answer mochaspit_extend(
+    mochaspit_path_tpc path,
+    mochaspit_train train,
+    const uint32_t *list, size_t list_len,
+    double *offsets, size_t offsets_len,
+    uint32_t *numbers, size_t numbers_len,
+    double *grades, size_t grades_len,
+    double *curves, size_t curves_len,
+    double *speeds, size_t speeds_len,
+    double *powers, size_t powers_len,
+    uint32_t *districts, size_t districts_len,
+    const uint32_t *links, size_t links_len,
+    const double *lengths, size_t lengths_len,
+    const uint32_t *sets, size_t sets_len,
+    const double *elevs, size_t elevs_len,
+    const double *headings, size_t headings_len,
+    const double *limits, size_t limits_len,
+    const uint32_t *codes, size_t codes_len,
+    const double *values, size_t values_len,
+    const double *pool, size_t pool_len,
+    const uint32_t *regions, size_t regions_len);
+
+/*
+ * Drops the links behind an offset, as a rule that of the train's back. The kept beginning is the first link point whose next one is
+ * not before the offset: an offset on a link's beginning keeps the link before. The limit that the train stands in stays posted.
+ * Questions: 1 of path and offset; 2; 10, the offset from the first to the last link point; 12.
+ * Comes back: the record with the new counts, and in dropped the grades, curves and power limits that went, by which indices into
+ * these columns fall (mochaspit_point_fix_cache, mochaspit_strap_fix_cache). Refused: columns and record as they came, dropped 0.
+ */
+mochaspit_clear_answer mochaspit_clear(
+    mochaspit_path_tpc path,
+    double offset,
+    double *offsets, size_t offsets_len,
+    uint32_t *numbers, size_t numbers_len,
+    double *grades, size_t grades_len,
+    double *curves, size_t curves_len,
+    double *speeds, size_t speeds_len,
+    double *powers, size_t powers_len,
+    uint32_t *districts, size_t districts_len);
+
+/*
+ * Closes a path: one more grade and curve record at +infinity, coefficient 0, with the last record's net value.
+ * Questions: 1 of the path; 2; 3; 9, room for the two records.
+ * Comes back: the record, finished, with one grade and one curve more. Refused: columns and record as they came.
+ */
+mochaspit_path_answer mochaspit_finish(
+    mochaspit_path_tpc path,
+    double *offsets, size_t offsets_len,
+    uint32_t *numbers, size_t numbers_len,
+    double *grades, size_t grades_len,
+    double *curves, size_t curves_len,
+    double *speeds, size_t speeds_len,
+    double *powers, size_t powers_len,
+    uint32_t *districts, size_t districts_len);
+
+/*
+ * The speed points anew: the top speed from the path's beginning on, and then the limits of the links still on the path. A finished
+ * path may be recalculated. Limits of dropped links, whose tails may reach into the path, are not laid again.
+ * Questions: 1 of path and train; 2; then of each link on the path 4, 6, 7 and 8, the place being its link point; 9, room for one
+ * speed point and two for each limit laid.
+ * Comes back: the record with the new count of speed points. Refused: columns and record as they came.
+ */
+mochaspit_path_answer mochaspit_recalc_speeds(
+    mochaspit_path_tpc path,
+    mochaspit_train train,
+    double *offsets, size_t offsets_len,
+    uint32_t *numbers, size_t numbers_len,
+    double *grades, size_t grades_len,
+    double *curves, size_t curves_len,
+    double *speeds, size_t speeds_len,
+    double *powers, size_t powers_len,
+    uint32_t *districts, size_t districts_len,
+    const uint32_t *links, size_t links_len,
+    const double *lengths, size_t lengths_len,
+    const uint32_t *sets, size_t sets_len,
+    const double *elevs, size_t elevs_len,
+    const double *headings, size_t headings_len,
+    const double *limits, size_t limits_len,
+    const uint32_t *codes, size_t codes_len,
+    const double *values, size_t values_len,
+    const double *pool, size_t pool_len,
+    const uint32_t *regions, size_t regions_len);
+
+/*
+ * Other numbers for the links: link n gets renumbered[n], the end point the last link's.
+ * Questions: 1 of the path; 2; 4, a number for each link, and not 0, the place being its link point.
+ * Comes back: the record as it was. Refused: columns and record as they came.
+ */
+mochaspit_path_answer mochaspit_reindex(
+    mochaspit_path_tpc path,
+    const uint32_t *renumbered, size_t renumbered_len,
+    double *offsets, size_t offsets_len,
+    uint32_t *numbers, size_t numbers_len,
+    double *grades, size_t grades_len,
+    double *curves, size_t curves_len,
+    double *speeds, size_t speeds_len,
+    double *powers, size_t powers_len,
+    uint32_t *districts, size_t districts_len);
+
+/* ---- calls that only read a path */
+
+/*
+ * Where the grades of link k, from 0, lie: a range of entries of the column grades, three to a record.
+ * Questions: 1 of the path; 2; 10, there is a k-th link.
+ * Comes back: the range. Refused: the range 0, 0.
+ */
+mochaspit_range_answer mochaspit_link_grades(
+    mochaspit_path_tpc path,
+    size_t k,
+    const double *offsets, size_t offsets_len,
+    const uint32_t *numbers, size_t numbers_len,
+    const double *grades, size_t grades_len,
+    const double *curves, size_t curves_len,
+    const double *speeds, size_t speeds_len,
+    const double *powers, size_t powers_len,
+    const uint32_t *districts, size_t districts_len);
+
+/* Where the curves of link k lie: as mochaspit_link_grades, in the column curves. */
+mochaspit_range_answer mochaspit_link_curves(
+    mochaspit_path_tpc path,
+    size_t k,
+    const double *offsets, size_t offsets_len,
+    const uint32_t *numbers, size_t numbers_len,
+    const double *grades, size_t grades_len,
+    const double *curves, size_t curves_len,
+    const double *speeds, size_t speeds_len,
+    const double *powers, size_t powers_len,
+    const uint32_t *districts, size_t districts_len);
+
+/*
+ * The links where a train stands: for the front and for the back the last link point at or before it, and the front's distance from
+ * its link point.
+ * Questions: 1 of position and path; 2; 10, front and back not before the first link point; 8, that distance.
+ * Comes back: the position with link_idx_front, link_idx_back and offset_in_link written. Refused: the position as it came.
+ */
+mochaspit_state_answer mochaspit_set_link_and_offset(
+    mochaspit_train_state state,
+    mochaspit_path_tpc path,
+    const double *offsets, size_t offsets_len,
+    const uint32_t *numbers, size_t numbers_len,
+    const double *grades, size_t grades_len,
+    const double *curves, size_t curves_len,
+    const double *speeds, size_t speeds_len,
+    const double *powers, size_t powers_len,
+    const uint32_t *districts, size_t districts_len);
+
+/* ---- calls on a list: the first n records of col, three entries each (offset, coefficient, net value), as grades and curves have
+ * them. Question 1 of a list: every number finite, but the last record's offset may be +infinity. Question 2: n is not 0, and the
+ * column holds n records. Any number of records may be searched. */
+
+/*
+ * The record where an offset lies, searched from the index hint. Forwards and unknown: the first record from the hint on whose
+ * successor is not before the offset, never back. Backwards: the last record up to the hint that is not after the offset.
+ * Questions: 1 of dir, offset and list; 2; 10, forwards and unknown: not past the last record, backwards: not before the first; 11,
+ * forwards and unknown: the hint below the last index, backwards: an index.
+ * Comes back: the index. Refused: 0.
+ */
+mochaspit_searched mochaspit_calc_idx(const double *col, size_t col_len, size_t n, double offset, size_t hint, uint32_t dir);
+
+/*
+ * A point for a train: the record of its middle, offset - length * 0.5, searched forwards from 0.
+ * Questions: 1 of position and list; 2; 8 of the middle; 10 and 11 of the search. A list of one record is always refused.
+ * Comes back: the point. Refused: index 0.
+ */
+mochaspit_point_answer mochaspit_point_new(const double *col, size_t col_len, size_t n, mochaspit_train_state state);
+
+/*
+ * The force on the train: the point moves to the middle's record, searched from its own index; its coefficient times weight_static.
+ * Questions: 1 of dir, position and list; 2; 8 of the middle; 10 and 11 of the search; 8 of the force.
+ * Comes back: the point moved, and the force. Refused: the point as it came, force 0.
+ */
+mochaspit_point_res mochaspit_point_calc_res(
+    mochaspit_point point, const double *col, size_t col_len, size_t n, mochaspit_train_state state, uint32_t dir);
+
+/*
+ * The coefficient of the point's record.
+ * Questions: 1 of the list; 2; 11, the index is in the list.
+ * Comes back: the coefficient. Refused: 0.
+ */
+mochaspit_coeff_answer mochaspit_point_res_coeff_front(mochaspit_point point, const double *col, size_t col_len, size_t n);
+
+/*
+ * The net value at the train's front by the point's record: net + coefficient * (offset - the record's offset).
+ * Questions: 1 of position and list; 2; 11; 8.
+ * Comes back: the net value. Refused: 0.
+ */
+mochaspit_net_answer mochaspit_point_res_net_front(
+    mochaspit_point point, const double *col, size_t col_len, size_t n, mochaspit_train_state state);
+
+/* The point's index. No questions. */
+size_t mochaspit_point_path_tpc_idx_front(mochaspit_point point);
+
+/*
+ * The point once sub records at the beginning of the list are dropped.
+ * Questions: 11, sub is not above the index.
+ * Comes back: the point with its index less sub. Refused: the point as it came.
+ */
+mochaspit_point_answer mochaspit_point_fix_cache(mochaspit_point point, size_t sub);
+
+/*
+ * A strap for a train: its back, offset - length, searched forwards from 0, and its front from there. 0 and 0 for a single record.
+ * Questions: 1 of position and list; 2; then, of two records or more, 8 of the back, 10 and 11 of the back, 10 and 11 of the front.
+ * Comes back: the strap. Refused: indices 0 and 0.
+ */
+mochaspit_strap_answer mochaspit_strap_new(const double *col, size_t col_len, size_t n, mochaspit_train_state state);
+
+/*
+ * The force on the train. Forwards moves the front, backwards the back, unknown both; if front and back are in one record its
+ * coefficient counts, otherwise the other end is moved too and (front value - back value) / length counts. Times weight_static. The
+ * front is at offset, the back at offset_back.
+ * Questions: 1 of dir, position and list; 2; 10 and 11 of the first search, and of the other where it is made; 8.
+ * Comes back: the strap moved, and the force. Refused: the strap as it came, force 0.
+ */
+mochaspit_strap_res mochaspit_strap_calc_res(
+    mochaspit_strap strap, const double *col, size_t col_len, size_t n, mochaspit_train_state state, uint32_t dir);
+
+/*
+ * The coefficient of the front's or the back's record.
+ * Questions: 1 of the list; 2; 11, the index is in the list.
+ * Comes back: the coefficient. Refused: 0.
+ */
+mochaspit_coeff_answer mochaspit_strap_res_coeff_front(mochaspit_strap strap, const double *col, size_t col_len, size_t n);
+mochaspit_coeff_answer mochaspit_strap_res_coeff_back(mochaspit_strap strap, const double *col, size_t col_len, size_t n);
+
+/*
+ * The net value at the front by the front's record, or at the back by the back's: net + coefficient * (offset - the record's offset).
+ * Questions: 1 of position and list; 2; 11; 8.
+ * Comes back: the net value. Refused: 0.
+ */
+mochaspit_net_answer mochaspit_strap_res_net_front(
+    mochaspit_strap strap, const double *col, size_t col_len, size_t n, mochaspit_train_state state);
+mochaspit_net_answer mochaspit_strap_res_net_back(
+    mochaspit_strap strap, const double *col, size_t col_len, size_t n, mochaspit_train_state state);
+
+/* The front's index. No questions. */
+size_t mochaspit_strap_path_tpc_idx_front(mochaspit_strap strap);
+
+/*
+ * The strap once sub records at the beginning of the list are dropped.
+ * Questions: 11, sub is above neither index.
+ * Comes back: the strap with both indices less sub. Refused: the strap as it came.
+ */
+mochaspit_strap_answer mochaspit_strap_fix_cache(mochaspit_strap strap, size_t sub);
+
+/* ---- many lookups in one list: mochaspit_list_answer puts questions 1 and 2 of the list once, and the two calls after it do not put
+ * them again. They may be made only while the list stands as it was when mochaspit_list_answer answered done for the same col, col_len
+ * and n; in particular n must not be 0 and col must hold n records. Nor do they ask whether the position's numbers are finite and its
+ * length above 0: the caller sees to that. All else is as in mochaspit_strap_new and mochaspit_strap_calc_res. */
+
+/*
+ * Whether a list may be searched.
+ * Questions: 1 of the list; 2.
+ * Comes back: done, or the refusal.
+ */
+mochaspit_answer mochaspit_list_answer(const double *col, size_t col_len, size_t n);
+
+/*
+ * mochaspit_strap_new in a list that passed.
+ * Questions: of two records or more, 8 of the back, 10 and 11 of the back, 10 and 11 of the front.
+ * Comes back: the strap. Refused: indices 0 and 0.
+ */
+mochaspit_strap_answer mochaspit_strap_new_known(const double *col, size_t col_len, size_t n, mochaspit_train_state state);
+
+/*
+ * mochaspit_strap_calc_res in a list that passed.
+ * Questions: 1 of dir; 10 and 11 of the first search, and of the other where it is made; 8.
+ * Comes back: the strap moved, and the force. Refused: the strap as it came, force 0.
+ */
+mochaspit_strap_res mochaspit_strap_calc_res_known(
+    mochaspit_strap strap, const double *col, size_t col_len, size_t n, mochaspit_train_state state, uint32_t dir);
+
+#ifdef __cplusplus
+}
+#endif
+
+#endif
