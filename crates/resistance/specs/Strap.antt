@@ -1,6 +1,6 @@
 -- `Strap`: document 01, path_res.rs. Definitions only.
 use Prim.Native.Nat.{ℕ, _-_}
-use mathlib.Core.Bool.{Bool, _&&_, cond}
+use mathlib.Core.Bool.{Bool, true, false, _&&_, cond}
 use mathlib.Core.List.{List, [], _∷_, _++_}
 use lib.Dec.{leb, eqb}
 use lib.ListN.{length}
@@ -17,6 +17,7 @@ use Rattle.train.specs.declared.train_state.TrainState.{TrainState}
 use Rattle.train.specs.Position.{frontOf, backOf, lengthOf, weightOf, stateFinite}
 use Rattle.resistance.specs.declared.listed.Searched.{Searched}
 use Rattle.resistance.specs.declared.strap.Strap.{Strap}
+use Rattle.resistance.specs.declared.strap.Moved.{Moved}
 use Rattle.resistance.specs.declared.strap.StrapAnswer.{StrapAnswer}
 use Rattle.resistance.specs.declared.strap.StrapRes.{StrapRes}
 use Rattle.resistance.specs.Listed.{listAnswer, search, notSearched, coeffAt, valueSteps}
@@ -30,37 +31,46 @@ frontIdx t = t .«idx_front»
 abbrev pub backIdx : Strap → ℕ
 backIdx t = t .«idx_back»
 
--- ---- the searches of a call
-
 abbrev pub answered : Answer → Strap → StrapAnswer
 answered a t = record { answer = a; strap = t }
 
--- what follows a search is made only where the search is done; t is what a refusal hands back
-abbrev pub afterSearch : Strap → Searched → StrapAnswer → StrapAnswer
-afterSearch t found next = cond (isDone (found .answer)) next (answered (found .answer) t)
+-- ---- the searches of a call
 
--- the back searched for, the front being found already
-unfoldable pub movedBack : Dir → Strap → ℕ → TrainState → List PathResCoeff → StrapAnswer
+-- what follows a search is made only where the search is done
+abbrev pub afterSearch : {A : Type 0} → (Answer → A) → Searched → A → A
+afterSearch refuse found next = cond (isDone (found .answer)) next (refuse (found .answer))
+
+-- the two indices, and whether one record serves both ends
+abbrev pub movedTo : ℕ → ℕ → Bool → Moved
+movedTo front back one = record { answer = done; strap = strapOf front back; one = one }
+
+-- a refusal hands the indices back as they came
+abbrev pub notMoved : Strap → Answer → Moved
+notMoved t a = record { answer = a; strap = t; one = false }
+
+-- the back searched for, the front being found already; only Unk asks after it whether the two indices are equal
+unfoldable pub movedBack : Dir → Strap → ℕ → Bool → TrainState → List PathResCoeff → Moved
 unfolding search
-movedBack dir t front s rs = let back = search dir (backOf s) (backIdx t) rs in afterSearch t back (answered done (strapOf front (back .idx)))
+movedBack dir t front asks s rs = let back = search dir (backOf s) (backIdx t) rs in afterSearch (notMoved t) back (movedTo front (back .idx) (asks && eqb front (back .idx)))
 
 -- the front searched for, the back being found already
-unfoldable pub movedFront : Dir → Strap → ℕ → TrainState → List PathResCoeff → StrapAnswer
+unfoldable pub movedFront : Dir → Strap → ℕ → TrainState → List PathResCoeff → Moved
 unfolding search
-movedFront dir t back s rs = let front = search dir (frontOf s) (frontIdx t) rs in afterSearch t front (answered done (strapOf (front .idx) back))
+movedFront dir t back s rs = let front = search dir (frontOf s) (frontIdx t) rs in afterSearch (notMoved t) front (movedTo (front .idx) back false)
 
--- "`Strap` advances the front (Fwd), the back (Bwd) or both (Unk); if the two indices are equal [..], otherwise it updates the other (not for Unk)"
-unfoldable pub moved : Dir → Strap → TrainState → List PathResCoeff → StrapAnswer
+-- "`Strap` advances the front (Fwd), the back (Bwd) or both (Unk); if the two indices are equal it takes that coefficient, otherwise it updates the other
+-- (not for Unk)": the indices are compared before the other one is updated, and not again
+unfoldable pub moved : Dir → Strap → TrainState → List PathResCoeff → Moved
 unfolding search movedBack movedFront
 moved Fwd t s rs =
     let front = search Fwd (frontOf s) (frontIdx t) rs in
-    afterSearch t front (cond (eqb (front .idx) (backIdx t)) (answered done (strapOf (front .idx) (backIdx t))) (movedBack Fwd t (front .idx) s rs))
+    afterSearch (notMoved t) front (cond (eqb (front .idx) (backIdx t)) (movedTo (front .idx) (backIdx t) true) (movedBack Fwd t (front .idx) false s rs))
 moved Bwd t s rs =
     let back = search Bwd (backOf s) (backIdx t) rs in
-    afterSearch t back (cond (eqb (back .idx) (frontIdx t)) (answered done (strapOf (frontIdx t) (back .idx))) (movedFront Bwd t (back .idx) s rs))
+    afterSearch (notMoved t) back (cond (eqb (back .idx) (frontIdx t)) (movedTo (frontIdx t) (back .idx) true) (movedFront Bwd t (back .idx) s rs))
 moved Unk t s rs =
     let front = search Unk (frontOf s) (frontIdx t) rs in
-    afterSearch t front (movedBack Unk t (front .idx) s rs)
+    afterSearch (notMoved t) front (movedBack Unk t (front .idx) true s rs)
 
 -- ---- the resistance at two indices
 
@@ -72,35 +82,38 @@ frontValue t s rs = resVal (coeffAt rs (frontIdx t)) (frontOf s)
 abbrev pub backValue : Strap → TrainState → List PathResCoeff → Float
 backValue t s rs = resVal (coeffAt rs (backIdx t)) (backOf s)
 
--- "if the two indices are equal it takes that coefficient, otherwise (front value − back value) / length"
-unfoldable pub calcResStrap : Strap → TrainState → List PathResCoeff → Float
+-- the coefficient of the one record that serves both ends, otherwise "(front value − back value) / length"
+unfoldable pub calcResStrap : Bool → Strap → TrainState → List PathResCoeff → Float
 unfolding resVal
-calcResStrap t s rs = cond (eqb (frontIdx t) (backIdx t)) (coefficientOf (coeffAt rs (frontIdx t))) ((frontValue t s rs ⊖ backValue t s rs) ⊘ lengthOf s)
+calcResStrap one t s rs = cond one (coefficientOf (coeffAt rs (frontIdx t))) ((frontValue t s rs ⊖ backValue t s rs) ⊘ lengthOf s)
 
 -- "Times `weight_static`."
-abbrev pub resAt : Strap → TrainState → List PathResCoeff → Float
-resAt t s rs = calcResStrap t s rs ⊗ weightOf s
+abbrev pub resAt : Bool → Strap → TrainState → List PathResCoeff → Float
+resAt one t s rs = calcResStrap one t s rs ⊗ weightOf s
 
 -- every result on the way, in the order of the operations
-unfoldable pub resSteps : Strap → TrainState → List PathResCoeff → List Float
+unfoldable pub resSteps : Bool → Strap → TrainState → List PathResCoeff → List Float
 unfolding resVal calcResStrap
-resSteps t s rs =
-    cond (eqb (frontIdx t) (backIdx t))
-    (resAt t s rs ∷ [])
+resSteps one t s rs =
+    cond one
+    (resAt one t s rs ∷ [])
     (valueSteps (coeffAt rs (frontIdx t)) (frontOf s) ++ (valueSteps (coeffAt rs (backIdx t)) (backOf s)
-    ++ ((frontValue t s rs ⊖ backValue t s rs) ∷ calcResStrap t s rs ∷ resAt t s rs ∷ [])))
+    ++ ((frontValue t s rs ⊖ backValue t s rs) ∷ calcResStrap one t s rs ∷ resAt one t s rs ∷ [])))
 
 -- ---- in a list that is known to be sound
+
+-- no strap, or the one of a single record: 0 and 0
+abbrev pub noStrap : Answer → StrapAnswer
+noStrap a = answered a (strapOf 0 0)
 
 -- "a new `Strap` searches Fwd for the back, offset − length, from 0 and for the front from the back's answer, and has 0 and 0 for a single record"
 unfoldable pub newKnown : TrainState → List PathResCoeff → StrapAnswer
 unfolding search
 newKnown s rs =
-    let none = strapOf 0 0 in
     let x = frontOf s ⊖ lengthOf s in
     let back = cond (finite x) (search Fwd x 0 rs) (notSearched 8) in
     let front = search Fwd (frontOf s) (back .idx) rs in
-    cond (leb (length rs) 1) (answered done none) (afterSearch none back (afterSearch none front (answered done (strapOf (front .idx) (back .idx)))))
+    cond (leb (length rs) 1) (noStrap done) (afterSearch noStrap back (afterSearch noStrap front (answered done (strapOf (front .idx) (back .idx)))))
 
 -- a refused call hands the record back as it came
 abbrev pub refusedRes : Answer → Strap → StrapRes
@@ -111,8 +124,8 @@ unfoldable pub calcResKnown : Dir → Strap → TrainState → List PathResCoeff
 unfolding moved resSteps calcResStrap inTurn allFinite
 calcResKnown dir t s rs =
     let m = moved dir t s rs in
-    let a = inTurn (m .answer ∷ ask 8 (allFinite (resSteps (m .strap) s rs)) ∷ []) in
-    cond (isDone a) (record { answer = done; strap = m .strap; res = record { 0 = resAt (m .strap) s rs } }) (refusedRes a t)
+    let a = inTurn (m .answer ∷ ask 8 (allFinite (resSteps (m .one) (m .strap) s rs)) ∷ []) in
+    cond (isDone a) (record { answer = done; strap = m .strap; res = record { 0 = resAt (m .one) (m .strap) s rs } }) (refusedRes a t)
 
 -- ---- the public calls: behind questions 1 and 2
 
@@ -120,7 +133,7 @@ unfoldable pub newOf : TrainState → ℕ → List Float → StrapAnswer
 unfolding listAnswer newKnown stateFinite
 newOf s n c =
     let a = listAnswer (stateFinite s) n c in
-    cond (isDone a) (newKnown s (coeffs n c)) (answered a (strapOf 0 0))
+    cond (isDone a) (newKnown s (coeffs n c)) (noStrap a)
 
 unfoldable pub calcResOf : Dir → Strap → TrainState → ℕ → List Float → StrapRes
 unfolding listAnswer calcResKnown stateFinite

@@ -45,34 +45,61 @@ pub struct StrapRes {
     pub res: Force,
 }
 
-// The back is searched for; front is found already. strap is what a refusal hands back.
+// What the searches of a call leave: the indices, and whether one record serves both ends.
+pub struct Moved {
+    pub answer: Answer,
+    pub strap: Strap,
+    pub one: bool,
+}
+
+// A search that is refused: the indices as they came.
+fn not_moved(strap: Strap, answer: Answer) -> Moved
+    ensures { λ r. ⌜ r ≡ spec.notMoved strap answer ⌝ }
+{
+    Moved {
+        answer,
+        strap,
+        one: false,
+    }
+}
+
+// The two indices where every search is done.
+fn moved_to(idx_front: usize, idx_back: usize, one: bool) -> Moved
+    ensures { λ r. ⌜ r ≡ spec.movedTo «idx_front» «idx_back» one ⌝ }
+{
+    Moved {
+        answer: asked(0, true),
+        strap: Strap {
+            idx_front,
+            idx_back,
+        },
+        one,
+    }
+}
+
+// The back is searched for; front is found already. asks: whether the two indices are compared after it.
 fn moved_back(
     strap: Strap,
     front: usize,
+    asks: bool,
     col: &[f64],
     n: usize,
     state: TrainState,
     dir: Dir,
-) -> StrapAnswer
+) -> Moved
     requires { ⌜ 0 < n ⌝ }
     requires { ⌜ 3 * n ≤ length (now col) ⌝ }
-    ensures { λ r. ⌜ r ≡ spec.movedBack dir strap front state (coeffs n (now (col .entry))) ⌝ }
+    ensures { λ r. ⌜ r ≡ spec.movedBack dir strap front asks state (coeffs n (now (col .entry))) ⌝ }
 {
     let back = search(col, n, Length(state.offset_back.0), strap.idx_back, dir);
     let answer = back.answer;
     if answer.number != 0 {
-        return StrapAnswer { answer, strap };
+        return not_moved(strap, answer);
     }
-    StrapAnswer {
-        answer,
-        strap: Strap {
-            idx_front: front,
-            idx_back: back.idx,
-        },
-    }
+    moved_to(front, back.idx, asks & (front == back.idx))
 }
 
-// The front is searched for; back is found already. strap is what a refusal hands back.
+// The front is searched for; back is found already.
 fn moved_front(
     strap: Strap,
     back: usize,
@@ -80,7 +107,7 @@ fn moved_front(
     n: usize,
     state: TrainState,
     dir: Dir,
-) -> StrapAnswer
+) -> Moved
     requires { ⌜ 0 < n ⌝ }
     requires { ⌜ 3 * n ≤ length (now col) ⌝ }
     ensures { λ r. ⌜ r ≡ spec.movedFront dir strap back state (coeffs n (now (col .entry))) ⌝ }
@@ -88,19 +115,13 @@ fn moved_front(
     let front = search(col, n, Length(state.offset.0), strap.idx_front, dir);
     let answer = front.answer;
     if answer.number != 0 {
-        return StrapAnswer { answer, strap };
+        return not_moved(strap, answer);
     }
-    StrapAnswer {
-        answer,
-        strap: Strap {
-            idx_front: front.idx,
-            idx_back: back,
-        },
-    }
+    moved_to(front.idx, back, false)
 }
 
 // Fwd: the front, and then the back unless it is there already.
-fn moved_fwd(strap: Strap, col: &[f64], n: usize, state: TrainState) -> StrapAnswer
+fn moved_fwd(strap: Strap, col: &[f64], n: usize, state: TrainState) -> Moved
     requires { ⌜ 0 < n ⌝ }
     requires { ⌜ 3 * n ≤ length (now col) ⌝ }
     ensures { λ r. ⌜ r ≡ spec.moved Dirs.Fwd strap state (coeffs n (now (col .entry))) ⌝ }
@@ -108,22 +129,16 @@ fn moved_fwd(strap: Strap, col: &[f64], n: usize, state: TrainState) -> StrapAns
     let front = search(col, n, Length(state.offset.0), strap.idx_front, Dir::Fwd);
     let answer = front.answer;
     if answer.number != 0 {
-        return StrapAnswer { answer, strap };
+        return not_moved(strap, answer);
     }
     if front.idx == strap.idx_back {
-        return StrapAnswer {
-            answer,
-            strap: Strap {
-                idx_front: front.idx,
-                idx_back: strap.idx_back,
-            },
-        };
+        return moved_to(front.idx, strap.idx_back, true);
     }
-    moved_back(strap, front.idx, col, n, state, Dir::Fwd)
+    moved_back(strap, front.idx, false, col, n, state, Dir::Fwd)
 }
 
 // Bwd: the back, and then the front unless it is there already.
-fn moved_bwd(strap: Strap, col: &[f64], n: usize, state: TrainState) -> StrapAnswer
+fn moved_bwd(strap: Strap, col: &[f64], n: usize, state: TrainState) -> Moved
     requires { ⌜ 0 < n ⌝ }
     requires { ⌜ 3 * n ≤ length (now col) ⌝ }
     ensures { λ r. ⌜ r ≡ spec.moved Dirs.Bwd strap state (coeffs n (now (col .entry))) ⌝ }
@@ -137,22 +152,16 @@ fn moved_bwd(strap: Strap, col: &[f64], n: usize, state: TrainState) -> StrapAns
     );
     let answer = back.answer;
     if answer.number != 0 {
-        return StrapAnswer { answer, strap };
+        return not_moved(strap, answer);
     }
     if back.idx == strap.idx_front {
-        return StrapAnswer {
-            answer,
-            strap: Strap {
-                idx_front: strap.idx_front,
-                idx_back: back.idx,
-            },
-        };
+        return moved_to(strap.idx_front, back.idx, true);
     }
     moved_front(strap, back.idx, col, n, state, Dir::Bwd)
 }
 
 // Unk: the front, and then the back.
-fn moved_unk(strap: Strap, col: &[f64], n: usize, state: TrainState) -> StrapAnswer
+fn moved_unk(strap: Strap, col: &[f64], n: usize, state: TrainState) -> Moved
     requires { ⌜ 0 < n ⌝ }
     requires { ⌜ 3 * n ≤ length (now col) ⌝ }
     ensures { λ r. ⌜ r ≡ spec.moved Dirs.Unk strap state (coeffs n (now (col .entry))) ⌝ }
@@ -160,13 +169,13 @@ fn moved_unk(strap: Strap, col: &[f64], n: usize, state: TrainState) -> StrapAns
     let front = search(col, n, Length(state.offset.0), strap.idx_front, Dir::Unk);
     let answer = front.answer;
     if answer.number != 0 {
-        return StrapAnswer { answer, strap };
+        return not_moved(strap, answer);
     }
-    moved_back(strap, front.idx, col, n, state, Dir::Unk)
+    moved_back(strap, front.idx, true, col, n, state, Dir::Unk)
 }
 
 // The two indices after the searches of a direction.
-fn moved(strap: Strap, col: &[f64], n: usize, state: TrainState, dir: Dir) -> StrapAnswer
+fn moved_by(strap: Strap, col: &[f64], n: usize, state: TrainState, dir: Dir) -> Moved
     requires { ⌜ 0 < n ⌝ }
     requires { ⌜ 3 * n ≤ length (now col) ⌝ }
     ensures { λ r. ⌜ r ≡ spec.moved dir strap state (coeffs n (now (col .entry))) ⌝ }
@@ -179,13 +188,13 @@ fn moved(strap: Strap, col: &[f64], n: usize, state: TrainState, dir: Dir) -> St
 }
 
 // The strap's coefficient: that of the one record, or (front value - back value) / length.
-fn calc_res_strap(strap: Strap, col: &[f64], n: usize, state: TrainState) -> Ratio
+fn calc_res_strap(one: bool, strap: Strap, col: &[f64], n: usize, state: TrainState) -> Ratio
     requires { ⌜ strap .«idx_front» < n ⌝ }
     requires { ⌜ strap .«idx_back» < n ⌝ }
-    ensures { λ r. ⌜ r .0 ≡ spec.calcResStrap strap state (coeffs n (now (col .entry))) ⌝ }
+    ensures { λ r. ⌜ r .0 ≡ spec.calcResStrap one strap state (coeffs n (now (col .entry))) ⌝ }
 {
     let front = coeff_at(col, strap.idx_front);
-    if strap.idx_front == strap.idx_back {
+    if one {
         return Ratio(front.res_coeff.0);
     }
     let front_value = calc_res_val(front, Length(state.offset.0));
@@ -267,7 +276,7 @@ pub fn calc_res_known(strap: Strap, col: &[f64], n: usize, state: TrainState, di
     requires { ⌜ 3 * n ≤ length (now col) ⌝ }
     ensures { λ r. ⌜ r ≡ spec.calcResKnown dir strap state (coeffs n (now (col .entry))) ⌝ }
 {
-    let m = moved(strap, col, n, state, dir);
+    let m = moved_by(strap, col, n, state, dir);
     let answer = m.answer;
     if answer.number != 0 {
         return StrapRes {
@@ -277,7 +286,7 @@ pub fn calc_res_known(strap: Strap, col: &[f64], n: usize, state: TrainState, di
         };
     }
     let after = m.strap;
-    let coeff = calc_res_strap(after, col, n, state);
+    let coeff = calc_res_strap(m.one, after, col, n, state);
     let res = coeff.0 * state.weight_static.0;
     if !ieee::is_finite(res) {
         return StrapRes {
