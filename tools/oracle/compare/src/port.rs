@@ -1,0 +1,170 @@
+//! The port through its C interface: columns lent as pointer and length, and each answer as a row of words to compare.
+use crate::calls::Call;
+use crate::columns::Cols;
+use crate::list_calls::{List, ListCall};
+use crate::table::Flat;
+use mochaspit::sys::*;
+
+/// Calls a function of the C interface with the path's seven columns behind its own arguments.
+macro_rules! with_columns {
+    ($name:ident, $c:ident, lent $(, $own:expr)*) => {
+        unsafe { $name($($own,)*
+            $c.offsets.as_mut_ptr(), $c.offsets.len(), $c.numbers.as_mut_ptr(), $c.numbers.len(),
+            $c.grades.as_mut_ptr(), $c.grades.len(), $c.curves.as_mut_ptr(), $c.curves.len(),
+            $c.speeds.as_mut_ptr(), $c.speeds.len(), $c.powers.as_mut_ptr(), $c.powers.len(),
+            $c.districts.as_mut_ptr(), $c.districts.len()) }
+    };
+    ($name:ident, $c:ident, read $(, $own:expr)*) => {
+        unsafe { $name($($own,)*
+            $c.offsets.as_ptr(), $c.offsets.len(), $c.numbers.as_ptr(), $c.numbers.len(),
+            $c.grades.as_ptr(), $c.grades.len(), $c.curves.as_ptr(), $c.curves.len(),
+            $c.speeds.as_ptr(), $c.speeds.len(), $c.powers.as_ptr(), $c.powers.len(),
+            $c.districts.as_ptr(), $c.districts.len()) }
+    };
+    ($name:ident, $c:ident, $f:ident $(, $own:expr)*) => {
+        unsafe { $name($($own,)*
+            $c.offsets.as_mut_ptr(), $c.offsets.len(), $c.numbers.as_mut_ptr(), $c.numbers.len(),
+            $c.grades.as_mut_ptr(), $c.grades.len(), $c.curves.as_mut_ptr(), $c.curves.len(),
+            $c.speeds.as_mut_ptr(), $c.speeds.len(), $c.powers.as_mut_ptr(), $c.powers.len(),
+            $c.districts.as_mut_ptr(), $c.districts.len(),
+            $f.links.as_ptr(), $f.links.len(), $f.lengths.as_ptr(), $f.lengths.len(), $f.sets.as_ptr(), $f.sets.len(),
+            $f.elevs.as_ptr(), $f.elevs.len(), $f.headings.as_ptr(), $f.headings.len(),
+            $f.limits.as_ptr(), $f.limits.len(), $f.codes.as_ptr(), $f.codes.len(), $f.values.as_ptr(), $f.values.len(),
+            $f.pool.as_ptr(), $f.pool.len(), $f.regions.as_ptr(), $f.regions.len()) }
+    };
+}
+
+pub fn new(train: Train, c: &mut Cols) -> PathAnswer {
+    with_columns!(mochaspit_new, c, lent, train)
+}
+pub fn finish(path: PathTpc, c: &mut Cols) -> PathAnswer {
+    with_columns!(mochaspit_finish, c, lent, path)
+}
+pub fn clear(path: PathTpc, offset: f64, c: &mut Cols) -> ClearAnswer {
+    with_columns!(mochaspit_clear, c, lent, path, offset)
+}
+pub fn reindex(path: PathTpc, new: &[u32], c: &mut Cols) -> PathAnswer {
+    with_columns!(mochaspit_reindex, c, lent, path, new.as_ptr(), new.len())
+}
+pub fn extend(path: PathTpc, train: Train, list: &[u32], c: &mut Cols, f: &Flat) -> PathAnswer {
+    with_columns!(mochaspit_extend, c, f, path, train, list.as_ptr(), list.len())
+}
+pub fn recalc_speeds(path: PathTpc, train: Train, c: &mut Cols, f: &Flat) -> PathAnswer {
+    with_columns!(mochaspit_recalc_speeds, c, f, path, train)
+}
+pub fn link_grades(path: PathTpc, k: usize, c: &Cols) -> RangeAnswer {
+    with_columns!(mochaspit_link_grades, c, read, path, k)
+}
+pub fn link_curves(path: PathTpc, k: usize, c: &Cols) -> RangeAnswer {
+    with_columns!(mochaspit_link_curves, c, read, path, k)
+}
+pub fn set_link_and_offset(state: TrainState, path: PathTpc, c: &Cols) -> StateAnswer {
+    with_columns!(mochaspit_set_link_and_offset, c, read, state, path)
+}
+pub fn strap_new(col: &[f64], n: usize, state: TrainState) -> StrapAnswer {
+    unsafe { mochaspit_strap_new(col.as_ptr(), col.len(), n, state) }
+}
+pub fn strap_calc_res(strap: Strap, col: &[f64], n: usize, state: TrainState, dir: u32) -> StrapRes {
+    unsafe { mochaspit_strap_calc_res(strap, col.as_ptr(), col.len(), n, state, dir) }
+}
+
+/// Questions 1 and 2 of a list, asked once for the calls on a list that is known to be sound.
+pub fn list_answer(col: &[f64], n: usize) -> Answer {
+    unsafe { mochaspit_list_answer(col.as_ptr(), col.len(), n) }
+}
+/// Of a list that `list_answer` found sound: n is above 0, and the column holds 3 n entries.
+pub fn strap_new_known(col: &[f64], n: usize, state: TrainState) -> StrapAnswer {
+    assert!(n > 0 && n <= col.len() / 3);
+    unsafe { mochaspit_strap_new_known(col.as_ptr(), col.len(), n, state) }
+}
+/// The same.
+pub fn strap_calc_res_known(strap: Strap, col: &[f64], n: usize, state: TrainState, dir: u32) -> StrapRes {
+    assert!(n > 0 && n <= col.len() / 3);
+    unsafe { mochaspit_strap_calc_res_known(strap, col.as_ptr(), col.len(), n, state, dir) }
+}
+
+/// The words of a path's record.
+pub fn path_words(p: &PathTpc) -> Vec<u64> {
+    let c = crate::columns::counts(p);
+    c.iter().map(|&x| x as u64).chain([p.is_finished as u64]).collect()
+}
+
+/// The words of a position.
+pub fn state_words(s: &TrainState) -> Vec<u64> {
+    let f = [s.offset, s.offset_back, s.length, s.weight_static, s.offset_in_link].map(f64::to_bits);
+    let mut v = f.to_vec();
+    v.extend([s.link_idx_front as u64, s.link_idx_back as u64]);
+    v
+}
+
+fn row(a: Answer, rest: &[u64]) -> Vec<u64> {
+    let mut v = vec![a.number as u64, a.place as u64];
+    v.extend(rest);
+    v
+}
+
+/// A call on a path: number, place and the words of what it hands back, and the record to go on with.
+pub fn path_call(call: &Call, path: PathTpc, t: Train, c: &mut Cols, f: &Flat) -> (Vec<u64>, PathTpc) {
+    let plain = |a: PathAnswer| (row(a.answer, &path_words(&a.path)), a.path);
+    let range = |a: RangeAnswer| (row(a.answer, &[a.range.from as u64, a.range.len as u64]), path);
+    match call {
+        Call::New => plain(new(t, c)),
+        Call::Extend(l) => plain(extend(path, t, l, c, f)),
+        Call::Clear(x) => {
+            let a = clear(path, *x, c);
+            let (mut v, p) = plain(a.outcome);
+            let d = a.dropped;
+            v.extend([d.offset.to_bits(), d.grade_count as u64, d.curve_count as u64, d.cat_power_count as u64, d.link_idx as u64]);
+            (v, p)
+        }
+        Call::Finish => plain(finish(path, c)),
+        Call::Reindex(l) => plain(reindex(path, l, c)),
+        Call::Recalc => plain(recalc_speeds(path, t, c, f)),
+        Call::LinkGrades(k) => range(link_grades(path, *k, c)),
+        Call::LinkCurves(k) => range(link_curves(path, *k, c)),
+        Call::Locate(s) => {
+            let a = set_link_and_offset(*s, path, c);
+            (row(a.answer, &state_words(&a.state)), path)
+        }
+    }
+}
+
+/// A call on a list: number, place and the words of what it hands back.
+pub fn list_call(call: &ListCall, l: &List) -> Vec<u64> {
+    let (p, len, n) = (l.col.as_ptr(), l.col.len(), l.n);
+    let point = |a: PointAnswer| row(a.answer, &[a.point.idx as u64]);
+    let strap = |a: StrapAnswer| row(a.answer, &[a.strap.idx_front as u64, a.strap.idx_back as u64]);
+    let force = |a: mochaspit::sys::StrapRes| row(a.answer, &[a.strap.idx_front as u64, a.strap.idx_back as u64, a.res.to_bits()]);
+    let coeff = |a: CoeffAnswer| row(a.answer, &[a.res_coeff.to_bits()]);
+    let net = |a: NetAnswer| row(a.answer, &[a.res_net.to_bits()]);
+    let index = |i: usize| row(Answer::default(), &[i as u64]);
+    use ListCall::*;
+    unsafe {
+        match *call {
+            CalcIdx(x, hint, dir) => {
+                let a = mochaspit_calc_idx(p, len, n, x, hint, dir);
+                row(a.answer, &[a.idx as u64])
+            }
+            PointNew(s) => point(mochaspit_point_new(p, len, n, s)),
+            PointRes(q, s, dir) => {
+                let a = mochaspit_point_calc_res(q, p, len, n, s, dir);
+                row(a.answer, &[a.point.idx as u64, a.res.to_bits()])
+            }
+            PointCoeff(q) => coeff(mochaspit_point_res_coeff_front(q, p, len, n)),
+            PointNet(q, s) => net(mochaspit_point_res_net_front(q, p, len, n, s)),
+            PointIdx(q) => index(mochaspit_point_path_tpc_idx_front(q)),
+            PointFix(q, sub) => point(mochaspit_point_fix_cache(q, sub)),
+            StrapNew(s) => strap(mochaspit_strap_new(p, len, n, s)),
+            StrapRes(q, s, dir) => force(mochaspit_strap_calc_res(q, p, len, n, s, dir)),
+            ListAnswer => row(mochaspit_list_answer(p, len, n), &[]),
+            StrapNewKnown(s) => strap(mochaspit_strap_new_known(p, len, n, s)),
+            StrapResKnown(q, s, dir) => force(mochaspit_strap_calc_res_known(q, p, len, n, s, dir)),
+            StrapCoeffFront(q) => coeff(mochaspit_strap_res_coeff_front(q, p, len, n)),
+            StrapCoeffBack(q) => coeff(mochaspit_strap_res_coeff_back(q, p, len, n)),
+            StrapNetFront(q, s) => net(mochaspit_strap_res_net_front(q, p, len, n, s)),
+            StrapNetBack(q, s) => net(mochaspit_strap_res_net_back(q, p, len, n, s)),
+            StrapIdx(q) => index(mochaspit_strap_path_tpc_idx_front(q)),
+            StrapFix(q, sub) => strap(mochaspit_strap_fix_cache(q, sub)),
+        }
+    }
+}
