@@ -1,4 +1,4 @@
-// Searches in a list of three records, and the resistance of a train on it.
+// Searches in short lists of records, and the resistance of a train on them.
 use crate::answers::answer;
 use crate::answers::thousandths;
 use lookup::calc_idx::calc_idx;
@@ -463,6 +463,31 @@ fn strap_unk(l: &[f64]) {
     resist(b"Strap::calc_res Unk, stale back", l, 3, at, 0, 2, Dir::Unk);
 }
 
+// The other end's update brings both ends to one record: still (front value - back value) / length.
+fn strap_after_update() {
+    let at = other_train(4.0, 2.0, 1.0, 1.0);
+    let fwd = [0.0, 0.0, 0.0, 1.0, 1.0, 0.0, 10.0, 0.0, 0.0];
+    let bwd = [0.0, 1.0, 0.0, 10.0, 0.0, 0.0];
+    resist(
+        b"Strap::calc_res Fwd, both ends on one record after the update",
+        &fwd,
+        3,
+        at,
+        0,
+        0,
+        Dir::Fwd,
+    );
+    resist(
+        b"Strap::calc_res Bwd, both ends on one record after the update",
+        &bwd,
+        2,
+        at,
+        1,
+        1,
+        Dir::Bwd,
+    );
+}
+
 fn strap_front_coeffs(l: &[f64], b: &[f64]) {
     let t = Strap {
         idx_front: 1,
@@ -613,6 +638,7 @@ pub fn straps() {
     strap_fwd_back(&l, &s);
     strap_bwd(&l);
     strap_unk(&l);
+    strap_after_update();
     strap_front_coeffs(&l, &b);
     strap_back_coeffs(&l, &b);
     strap_front_nets(&l, &s);

@@ -1,23 +1,21 @@
 -- A list searched alone: its questions in turn, where a search that is done ends, and the values of one record.
-use Prim.Native.Nat.{ℕ, suc, _-_, _*_, _/_, _≤_, _<_}
+use Prim.Native.Nat.{ℕ, _*_, _/_, _≤_, _<_}
 use native.Mathlib.Omega.{arith}
 use mathlib.Core.Path.{_≡_, refl, sym, ap, ap₂, _∙_}
 use mathlib.Core.Bool.{Bool, true, false, _&&_, and-true, cond}
 use mathlib.Core.List.{List, [], _∷_}
-use borrow.Author.Tests.{ltb-true, leb-true, leb-false, lt-ltb, le-ltb, le-leb, lt-leb}
+use borrow.Author.Tests.{leb-true, leb-false, lt-ltb, le-ltb, le-leb, lt-leb}
 use lib.Dec.{T, leb, ltb}
 use lib.ListN.{length}
-use lib.Ieee as Ieee
 use lib.Ieee.{Float}
 use lib.Ieee.Scale.{finite}
 use Rattle.ieee.specs.Number.{+0, _⊖_, _⊗_, allFinite}
-use Rattle.ieee.proofs.Order.{of-true}
 use Rattle.column.specs.Records.{recordAt}
 use Rattle.column.proofs.Bridge.{record-at}
 use Rattle.lookup.specs.declared.lin_search_hint.Dir.{Dir}
 use Rattle.lookup.specs.declared.lin_search_hint.Found.{Found}
 use Rattle.lookup.specs.declared.path_res_coeff.PathResCoeff.{PathResCoeff}
-use Rattle.lookup.specs.Coeff.{triple, coeffs, noCoeff, standsAt, offsetAt, coefficientOf, netOf, resVal, coeffsFinite}
+use Rattle.lookup.specs.Coeff.{triple, coeffs, noCoeff, standsAt, coefficientOf, netOf, resVal, coeffsFinite}
 use Rattle.lookup.specs.CalcIdx.{Indexed, indexed, findIn, listSound}
 use Rattle.lookup.proofs.Coeffs.{triple-lawful}
 use Rattle.lookup.proofs.Place.{found-below}

@@ -24,117 +24,123 @@ use Rattle.train.specs.declared.train_state.TrainState.{TrainState}
 use Rattle.train.specs.Position.{frontOf, backOf, lengthOf, weightOf, stateFinite}
 use Rattle.resistance.specs.declared.listed.Searched.{Searched}
 use Rattle.resistance.specs.declared.strap.Strap.{Strap}
+use Rattle.resistance.specs.declared.strap.Moved.{Moved}
 use Rattle.resistance.specs.declared.strap.StrapAnswer.{StrapAnswer}
 use Rattle.resistance.specs.declared.strap.StrapRes.{StrapRes}
 use Rattle.resistance.specs.Listed.{listAnswer, search, notSearched, coeffAt, valueSteps}
-use Rattle.resistance.specs.Strap.{strapOf, frontIdx, backIdx, answered, afterSearch, movedBack, movedFront, moved, frontValue, backValue, calcResStrap, resAt, resSteps, newKnown, refusedRes, calcResKnown, newOf, calcResOf, fixCache}
+use Rattle.resistance.specs.Strap.{strapOf, frontIdx, backIdx, answered, afterSearch, movedTo, notMoved, movedBack, movedFront, moved, frontValue, backValue, calcResStrap, resAt, resSteps, noStrap, newKnown, refusedRes, calcResKnown, newOf, calcResOf, fixCache}
 use Rattle.ieee.proofs.Finite.{sub-finite-l, sub-finite-r, mul-finite-l, div-finite-l}
 use Rattle.resistance.proofs.Answered.{one-no, one-yes, behind-no, behind-yes, both-first, both-second, both-done}
 use Rattle.resistance.proofs.ListSteps.{list-of-state, Within, search-within, implied, last-of-three, value-finite, coeff-read}
 
--- ---- what follows a search; r is the code's answer of it, and t what a refusal hands back
-module _ (t : Strap) {found r : Searched} (e : r ≡ found) where
+-- ---- what follows a search; r is the code's answer of it, and m what the code gives
+module _ {A : Type 0} (refuse : Answer → A) {found r : Searched} (e : r ≡ found) where
   answer-is : r .answer ≡ found .answer
   answer-is = ap (λ (s : Searched). s .answer) e
 
-  after-no : (next : StrapAnswer) → (r .answer .number ≡ 0 → ⊥) → answered (r .answer) t ≡ afterSearch t found next
-  after-no next h = behind-no (λ (a : Answer). answered a t) answer-is next h
+  after-no : (next : A) {m : A} → (r .answer .number ≡ 0 → ⊥) → m ≡ refuse (r .answer) → m ≡ afterSearch refuse found next
+  after-no next h f = f ∙ behind-no refuse answer-is next h
 
-  -- next is made of the index found
-  after-yes : (next : ℕ → StrapAnswer) {m : StrapAnswer} → r .answer .number ≡ 0 → m ≡ next (r .idx) → m ≡ afterSearch t found (next (found .idx))
-  after-yes next z f = behind-yes (λ (a : Answer). answered a t) answer-is z (f ∙ ap (λ (s : Searched). next (s .idx)) e)
+  module _ (z : r .answer .number ≡ 0) where
+    -- next is made of the index found
+    after-yes : (next : ℕ → A) {m : A} → m ≡ next (r .idx) → m ≡ afterSearch refuse found (next (found .idx))
+    after-yes next f = behind-yes refuse answer-is z (f ∙ ap (λ (s : Searched). next (s .idx)) e)
 
-module _ (t : Strap) (dir : Dir) (x : Float) (hint : ℕ) (rs : List PathResCoeff) {r : Searched} (e : r ≡ search dir x hint rs) (z : r .answer .number ≡ 0) where
-  within : (r .answer ≡ done) × (r .idx < length rs)
-  within = subst (Within rs) (sym e) (search-within dir x hint rs) z
+    -- the other end stands at k: it is searched for unless the index found is k
+    module _ (same other : ℕ → A) (k : ℕ) where
+      abbrev unless : Bool → ℕ → A
+      unless b i = cond b (same i) (other i)
 
-  -- the strap is made of the index found
-  after-found : (make : ℕ → Strap) → answered (r .answer) (make (r .idx)) ≡ afterSearch t (search dir x hint rs) (answered done (make (search dir x hint rs .idx)))
-  after-found make = after-yes t e (λ (i : ℕ). answered done (make i)) z (ap (λ (a : Answer). answered a (make (r .idx))) (within .0))
+      same-end : {m : A} → r .idx ≡ k → m ≡ same (r .idx) → m ≡ afterSearch refuse found (unless (eqb (found .idx) k) (found .idx))
+      same-end h f = after-yes (λ (i : ℕ). unless (eqb i k) i) (f ∙ ap (λ (b : Bool). unless b (r .idx)) (sym (eq-eqb (r .idx) k h)))
 
-  -- the other end stands at k: it is searched for unless the index found is k
-  module _ (make : ℕ → Strap) (other : ℕ → StrapAnswer) (k : ℕ) where
-    abbrev unless : Bool → ℕ → StrapAnswer
-    unless b i = cond b (answered done (make i)) (other i)
-
-    same-end : r .idx ≡ k → answered (r .answer) (make (r .idx)) ≡ afterSearch t (search dir x hint rs) (unless (eqb (search dir x hint rs .idx) k) (search dir x hint rs .idx))
-    same-end h = after-yes t e (λ (i : ℕ). unless (eqb i k) i) z (ap (λ (a : Answer). answered a (make (r .idx))) (within .0) ∙ ap (λ (b : Bool). unless b (r .idx)) (sym (eq-eqb (r .idx) k h)))
-
-    other-end : {m : StrapAnswer} → (r .idx ≡ k → ⊥) → m ≡ other (r .idx) → m ≡ afterSearch t (search dir x hint rs) (unless (eqb (search dir x hint rs .idx) k) (search dir x hint rs .idx))
-    other-end h f = after-yes t e (λ (i : ℕ). unless (eqb i k) i) z (f ∙ ap (λ (b : Bool). unless b (r .idx)) (sym (ne-eqb (r .idx) k h)))
+      other-end : {m : A} → (r .idx ≡ k → ⊥) → m ≡ other (r .idx) → m ≡ afterSearch refuse found (unless (eqb (found .idx) k) (found .idx))
+      other-end h f = after-yes (λ (i : ℕ). unless (eqb i k) i) (f ∙ ap (λ (b : Bool). unless b (r .idx)) (sym (ne-eqb (r .idx) k h)))
 
 -- ---- the searches of a call
 module _ (dir : Dir) (t : Strap) (s : TrainState) (rs : List PathResCoeff) where
-  module _ (front : ℕ) {r : Searched} (e : r ≡ search dir (backOf s) (backIdx t) rs) where
-    pub back-refused : (r .answer .number ≡ 0 → ⊥) → answered (r .answer) t ≡ movedBack dir t front s rs
+  module _ (front : ℕ) (asks : Bool) {r : Searched} (e : r ≡ search dir (backOf s) (backIdx t) rs) where
+    pub back-refused : {m : Moved} → (r .answer .number ≡ 0 → ⊥) → m ≡ notMoved t (r .answer) → m ≡ movedBack dir t front asks s rs
     unfolding movedBack
-    back-refused h = after-no t e _ h
+    back-refused h f = after-no (notMoved t) e _ h f
 
-    pub back-found : r .answer .number ≡ 0 → answered (r .answer) (strapOf front (r .idx)) ≡ movedBack dir t front s rs
+    pub back-found : {m : Moved} → r .answer .number ≡ 0 → m ≡ movedTo front (r .idx) (asks && eqb front (r .idx)) → m ≡ movedBack dir t front asks s rs
     unfolding movedBack
-    back-found z = after-found t dir (backOf s) (backIdx t) rs e z (λ (i : ℕ). strapOf front i)
+    back-found z f = after-yes (notMoved t) e z (λ (i : ℕ). movedTo front i (asks && eqb front i)) f
 
   module _ (back : ℕ) {r : Searched} (e : r ≡ search dir (frontOf s) (frontIdx t) rs) where
-    pub front-refused : (r .answer .number ≡ 0 → ⊥) → answered (r .answer) t ≡ movedFront dir t back s rs
+    pub front-refused : {m : Moved} → (r .answer .number ≡ 0 → ⊥) → m ≡ notMoved t (r .answer) → m ≡ movedFront dir t back s rs
     unfolding movedFront
-    front-refused h = after-no t e _ h
+    front-refused h f = after-no (notMoved t) e _ h f
 
-    pub front-found : r .answer .number ≡ 0 → answered (r .answer) (strapOf (r .idx) back) ≡ movedFront dir t back s rs
+    pub front-found : {m : Moved} → r .answer .number ≡ 0 → m ≡ movedTo (r .idx) back false → m ≡ movedFront dir t back s rs
     unfolding movedFront
-    front-found z = after-found t dir (frontOf s) (frontIdx t) rs e z (λ (i : ℕ). strapOf i back)
+    front-found z f = after-yes (notMoved t) e z (λ (i : ℕ). movedTo i back false) f
 
 module _ (t : Strap) (s : TrainState) (rs : List PathResCoeff) {r : Searched} where
   module _ (e : r ≡ search Fwd (frontOf s) (frontIdx t) rs) where
-    pub fwd-refused : (r .answer .number ≡ 0 → ⊥) → answered (r .answer) t ≡ moved Fwd t s rs
+    pub fwd-refused : {m : Moved} → (r .answer .number ≡ 0 → ⊥) → m ≡ notMoved t (r .answer) → m ≡ moved Fwd t s rs
     unfolding moved
-    fwd-refused h = after-no t e _ h
+    fwd-refused h f = after-no (notMoved t) e _ h f
 
     module _ (z : r .answer .number ≡ 0) where
-      pub fwd-same : r .idx ≡ backIdx t → answered (r .answer) (strapOf (r .idx) (backIdx t)) ≡ moved Fwd t s rs
-      unfolding moved
-      fwd-same h = same-end t Fwd (frontOf s) (frontIdx t) rs e z (λ (i : ℕ). strapOf i (backIdx t)) (λ (i : ℕ). movedBack Fwd t i s rs) (backIdx t) h
+      abbrev at-back : ℕ → Moved
+      at-back i = movedTo i (backIdx t) true
 
-      pub fwd-other : {m : StrapAnswer} → (r .idx ≡ backIdx t → ⊥) → m ≡ movedBack Fwd t (r .idx) s rs → m ≡ moved Fwd t s rs
+      abbrev then-back : ℕ → Moved
+      then-back i = movedBack Fwd t i false s rs
+
+      pub fwd-same : {m : Moved} → r .idx ≡ backIdx t → m ≡ movedTo (r .idx) (backIdx t) true → m ≡ moved Fwd t s rs
       unfolding moved
-      fwd-other h f = other-end t Fwd (frontOf s) (frontIdx t) rs e z (λ (i : ℕ). strapOf i (backIdx t)) (λ (i : ℕ). movedBack Fwd t i s rs) (backIdx t) h f
+      fwd-same h f = same-end (notMoved t) e z at-back then-back (backIdx t) h f
+
+      pub fwd-other : {m : Moved} → (r .idx ≡ backIdx t → ⊥) → m ≡ movedBack Fwd t (r .idx) false s rs → m ≡ moved Fwd t s rs
+      unfolding moved
+      fwd-other h f = other-end (notMoved t) e z at-back then-back (backIdx t) h f
 
   module _ (e : r ≡ search Bwd (backOf s) (backIdx t) rs) where
-    pub bwd-refused : (r .answer .number ≡ 0 → ⊥) → answered (r .answer) t ≡ moved Bwd t s rs
+    pub bwd-refused : {m : Moved} → (r .answer .number ≡ 0 → ⊥) → m ≡ notMoved t (r .answer) → m ≡ moved Bwd t s rs
     unfolding moved
-    bwd-refused h = after-no t e _ h
+    bwd-refused h f = after-no (notMoved t) e _ h f
 
     module _ (z : r .answer .number ≡ 0) where
-      pub bwd-same : r .idx ≡ frontIdx t → answered (r .answer) (strapOf (frontIdx t) (r .idx)) ≡ moved Bwd t s rs
-      unfolding moved
-      bwd-same h = same-end t Bwd (backOf s) (backIdx t) rs e z (λ (i : ℕ). strapOf (frontIdx t) i) (λ (i : ℕ). movedFront Bwd t i s rs) (frontIdx t) h
+      abbrev at-front : ℕ → Moved
+      at-front i = movedTo (frontIdx t) i true
 
-      pub bwd-other : {m : StrapAnswer} → (r .idx ≡ frontIdx t → ⊥) → m ≡ movedFront Bwd t (r .idx) s rs → m ≡ moved Bwd t s rs
+      abbrev then-front : ℕ → Moved
+      then-front i = movedFront Bwd t i s rs
+
+      pub bwd-same : {m : Moved} → r .idx ≡ frontIdx t → m ≡ movedTo (frontIdx t) (r .idx) true → m ≡ moved Bwd t s rs
       unfolding moved
-      bwd-other h f = other-end t Bwd (backOf s) (backIdx t) rs e z (λ (i : ℕ). strapOf (frontIdx t) i) (λ (i : ℕ). movedFront Bwd t i s rs) (frontIdx t) h f
+      bwd-same h f = same-end (notMoved t) e z at-front then-front (frontIdx t) h f
+
+      pub bwd-other : {m : Moved} → (r .idx ≡ frontIdx t → ⊥) → m ≡ movedFront Bwd t (r .idx) s rs → m ≡ moved Bwd t s rs
+      unfolding moved
+      bwd-other h f = other-end (notMoved t) e z at-front then-front (frontIdx t) h f
 
   module _ (e : r ≡ search Unk (frontOf s) (frontIdx t) rs) where
-    pub unk-refused : (r .answer .number ≡ 0 → ⊥) → answered (r .answer) t ≡ moved Unk t s rs
+    pub unk-refused : {m : Moved} → (r .answer .number ≡ 0 → ⊥) → m ≡ notMoved t (r .answer) → m ≡ moved Unk t s rs
     unfolding moved
-    unk-refused h = after-no t e _ h
+    unk-refused h f = after-no (notMoved t) e _ h f
 
-    pub unk-other : {m : StrapAnswer} → r .answer .number ≡ 0 → m ≡ movedBack Unk t (r .idx) s rs → m ≡ moved Unk t s rs
+    pub unk-other : {m : Moved} → r .answer .number ≡ 0 → m ≡ movedBack Unk t (r .idx) true s rs → m ≡ moved Unk t s rs
     unfolding moved
-    unk-other z f = after-yes t e (λ (i : ℕ). movedBack Unk t i s rs) z f
+    unk-other z f = after-yes (notMoved t) e z (λ (i : ℕ). movedBack Unk t i true s rs) f
 
 -- ---- a call that is done leaves both indices below the count
-abbrev Placed : List PathResCoeff → StrapAnswer → Type 0
+abbrev Placed : List PathResCoeff → Moved → Type 0
 Placed rs m = m .answer .number ≡ 0 → (m .answer ≡ done) × (frontIdx (m .strap) < length rs) × (backIdx (m .strap) < length rs)
 
 module _ (rs : List PathResCoeff) where
-  after-placed : (t : Strap) (found : Searched) (next : StrapAnswer) → Within rs found → (found .idx < length rs → Placed rs next) → Placed rs (afterSearch t found next)
+  after-placed : (t : Strap) (found : Searched) (next : Moved) → Within rs found → (found .idx < length rs → Placed rs next) → Placed rs (afterSearch (notMoved t) found next)
   after-placed t found next w h = go (isDone (found .answer)) refl
     where
-      go : (b : Bool) → isDone (found .answer) ≡ b → Placed rs (cond b next (answered (found .answer) t))
+      go : (b : Bool) → isDone (found .answer) ≡ b → Placed rs (cond b next (notMoved t (found .answer)))
       go true e z = h (w (eqb-true (found .answer .number) 0 e) .1) z
       go false e z = absurd (eqb-false (found .answer .number) 0 e z)
 
   -- i is the index found, k where the other end stands
-  unless-placed : (i k : ℕ) (same other : StrapAnswer) → (i ≡ k → Placed rs same) → Placed rs other → Placed rs (cond (eqb i k) same other)
+  unless-placed : (i k : ℕ) (same other : Moved) → (i ≡ k → Placed rs same) → Placed rs other → Placed rs (cond (eqb i k) same other)
   unless-placed i k same other g h = go (eqb i k) refl
     where
       go : (b : Bool) → eqb i k ≡ b → Placed rs (cond b same other)
@@ -142,9 +148,9 @@ module _ (rs : List PathResCoeff) where
       go false e = h
 
 module _ (t : Strap) (s : TrainState) (rs : List PathResCoeff) where
-  back-placed : (dir : Dir) (front : ℕ) → front < length rs → Placed rs (movedBack dir t front s rs)
+  back-placed : (dir : Dir) (front : ℕ) (asks : Bool) → front < length rs → Placed rs (movedBack dir t front asks s rs)
   unfolding movedBack
-  back-placed dir front h = after-placed rs t _ _ (search-within dir (backOf s) (backIdx t) rs) (λ b z. (refl, h, b))
+  back-placed dir front asks h = after-placed rs t _ _ (search-within dir (backOf s) (backIdx t) rs) (λ b z. (refl, h, b))
 
   front-placed : (dir : Dir) (back : ℕ) → back < length rs → Placed rs (movedFront dir t back s rs)
   unfolding movedFront
@@ -154,25 +160,25 @@ module _ (t : Strap) (s : TrainState) (rs : List PathResCoeff) where
   unfolding moved
   moved-placed Fwd =
       after-placed rs t _ _ (search-within Fwd (frontOf s) (frontIdx t) rs)
-      (λ f. unless-placed rs _ (backIdx t) _ _ (λ e z. (refl, f, subst (λ (i : ℕ). i < length rs) e f)) (back-placed Fwd _ f))
+      (λ f. unless-placed rs _ (backIdx t) _ _ (λ e z. (refl, f, subst (λ (i : ℕ). i < length rs) e f)) (back-placed Fwd _ false f))
   moved-placed Bwd =
       after-placed rs t _ _ (search-within Bwd (backOf s) (backIdx t) rs)
       (λ b. unless-placed rs _ (frontIdx t) _ _ (λ e z. (refl, subst (λ (i : ℕ). i < length rs) e b, b)) (front-placed Bwd _ b))
-  moved-placed Unk = after-placed rs t _ _ (search-within Unk (frontOf s) (frontIdx t) rs) (λ f. back-placed Unk _ f)
+  moved-placed Unk = after-placed rs t _ _ (search-within Unk (frontOf s) (frontIdx t) rs) (λ f. back-placed Unk _ true f)
 
 -- ---- the coefficient at two indices; g is the front's record as the code reads it
-module _ (t : Strap) (s : TrainState) (n : ℕ) (c : List Float) (h : frontIdx t < n) {g : PathResCoeff} (e : g ≡ recordAt triple c (frontIdx t)) where
-  pub one-record : frontIdx t ≡ backIdx t → coefficientOf g ≡ calcResStrap t s (coeffs n c)
+module _ {one : Bool} (t : Strap) (s : TrainState) (n : ℕ) (c : List Float) (h : frontIdx t < n) {g : PathResCoeff} (e : g ≡ recordAt triple c (frontIdx t)) where
+  pub one-record : one ≡ true → coefficientOf g ≡ calcResStrap one t s (coeffs n c)
   unfolding calcResStrap
-  one-record k = rw (eq-eqb (frontIdx t) (backIdx t) k) (ap coefficientOf (coeff-read n c h e))
+  one-record k = rw k (ap coefficientOf (coeff-read n c h e))
 
-  pub two-records : (frontIdx t ≡ backIdx t → ⊥) → {v : Float} → v ≡ resVal g (frontOf s) → backIdx t < n → {k : PathResCoeff} → k ≡ recordAt triple c (backIdx t) → {w : Float} → w ≡ resVal k (backOf s)
-      → (v ⊖ w) ⊘ lengthOf s ≡ calcResStrap t s (coeffs n c)
+  pub two-records : one ≡ false → {v : Float} → v ≡ resVal g (frontOf s) → backIdx t < n → {k : PathResCoeff} → k ≡ recordAt triple c (backIdx t) → {w : Float} → w ≡ resVal k (backOf s)
+      → (v ⊖ w) ⊘ lengthOf s ≡ calcResStrap one t s (coeffs n c)
   unfolding calcResStrap
   two-records d {v} a b {k} f {w} u =
       let x : v ≡ frontValue t s (coeffs n c) = a ∙ ap (λ (r : PathResCoeff). resVal r (frontOf s)) (coeff-read n c h e) in
       let y : w ≡ backValue t s (coeffs n c) = u ∙ ap (λ (r : PathResCoeff). resVal r (backOf s)) (coeff-read n c b f) in
-      rw (ne-eqb (frontIdx t) (backIdx t) d) (ap₂ (λ (p q : Float). (p ⊖ q) ⊘ lengthOf s) x y)
+      rw d (ap₂ (λ (p q : Float). (p ⊖ q) ⊘ lengthOf s) x y)
 
 -- ---- the resistance is finite only where every result on the way is
 module _ (t : Strap) (s : TrainState) (rs : List PathResCoeff) where
@@ -185,54 +191,45 @@ module _ (t : Strap) (s : TrainState) (rs : List PathResCoeff) where
   abbrev difference : Float
   difference = frontValue t s rs ⊖ backValue t s rs
 
-  steps-one : eqb (frontIdx t) (backIdx t) ≡ true → resSteps t s rs ≡ resAt t s rs ∷ []
-  unfolding resSteps
-  steps-one e = rw e
+  abbrev quotient : Float
+  quotient = difference ⊘ lengthOf s
 
-  steps-two : eqb (frontIdx t) (backIdx t) ≡ false → resSteps t s rs ≡ frontSteps ++ (backSteps ++ (difference ∷ calcResStrap t s rs ∷ resAt t s rs ∷ []))
-  unfolding resSteps
-  steps-two e = rw e
-
-  quotient : eqb (frontIdx t) (backIdx t) ≡ false → calcResStrap t s rs ≡ difference ⊘ lengthOf s
-  unfolding calcResStrap
-  quotient e = rw e
-
-  steps-finite : allFinite (resSteps t s rs) ≡ finite (resAt t s rs)
-  unfolding allFinite
-  steps-finite = go (eqb (frontIdx t) (backIdx t)) refl
-    where
-      go : (b : Bool) → eqb (frontIdx t) (backIdx t) ≡ b → allFinite (resSteps t s rs) ≡ finite (resAt t s rs)
-      go true e = ap allFinite (steps-one e) ∙ and-true (finite (resAt t s rs))
-      go false e =
-          let last = finite (resAt t s rs) in
-          let q : T last → T (finite (calcResStrap t s rs)) = mul-finite-l (calcResStrap t s rs) (weightOf s) in
-          let d : T last → T (finite difference) = λ x. div-finite-l difference (lengthOf s) (subst (λ (y : Float). T (finite y)) (quotient e) (q x)) in
-          let f : T last → T (finite (frontValue t s rs)) = λ x. sub-finite-l (frontValue t s rs) (backValue t s rs) (d x) in
-          let b : T last → T (finite (backValue t s rs)) = λ x. sub-finite-r (frontValue t s rs) (backValue t s rs) (d x) in
-          ap allFinite (steps-two e)
-          ∙ finite-append frontSteps (backSteps ++ (difference ∷ calcResStrap t s rs ∷ resAt t s rs ∷ []))
-          ∙ ap₂ _&&_ (value-finite (coeffAt rs (frontIdx t)) (frontOf s))
-          (finite-append backSteps (difference ∷ calcResStrap t s rs ∷ resAt t s rs ∷ [])
-          ∙ ap₂ _&&_ (value-finite (coeffAt rs (backIdx t)) (backOf s)) (last-of-three (finite difference) (finite (calcResStrap t s rs)) last d q)
-          ∙ implied (finite (backValue t s rs)) last b)
-          ∙ implied (finite (frontValue t s rs)) last f
+  steps-finite : (one : Bool) → allFinite (resSteps one t s rs) ≡ finite (resAt one t s rs)
+  unfolding allFinite resSteps calcResStrap
+  steps-finite true = and-true (finite (resAt true t s rs))
+  steps-finite false =
+      let force = quotient ⊗ weightOf s in
+      let last = finite force in
+      let q : T last → T (finite quotient) = mul-finite-l quotient (weightOf s) in
+      let d : T last → T (finite difference) = λ x. div-finite-l difference (lengthOf s) (q x) in
+      let f : T last → T (finite (frontValue t s rs)) = λ x. sub-finite-l (frontValue t s rs) (backValue t s rs) (d x) in
+      let b : T last → T (finite (backValue t s rs)) = λ x. sub-finite-r (frontValue t s rs) (backValue t s rs) (d x) in
+      finite-append frontSteps (backSteps ++ (difference ∷ quotient ∷ force ∷ []))
+      ∙ ap₂ _&&_ (value-finite (coeffAt rs (frontIdx t)) (frontOf s))
+      (finite-append backSteps (difference ∷ quotient ∷ force ∷ [])
+      ∙ ap₂ _&&_ (value-finite (coeffAt rs (backIdx t)) (backOf s)) (last-of-three (finite difference) (finite quotient) last d q)
+      ∙ implied (finite (backValue t s rs)) last b)
+      ∙ implied (finite (frontValue t s rs)) last f
 
 -- ---- the resistance; m is the code's answer of the searches
-module _ (dir : Dir) (t : Strap) (s : TrainState) (n : ℕ) (c : List Float) {m : StrapAnswer} (e : m ≡ moved dir t s (coeffs n c)) where
-  abbrev there : Strap
-  there = moved dir t s (coeffs n c) .strap
+module _ (dir : Dir) (t : Strap) (s : TrainState) (n : ℕ) (c : List Float) {m : Moved} (e : m ≡ moved dir t s (coeffs n c)) where
+  abbrev there : Moved
+  there = moved dir t s (coeffs n c)
 
   abbrev refuse : Answer → StrapRes
   refuse a = refusedRes a t
 
+  abbrev forceAt : Moved → Float
+  forceAt r = resAt (r .one) (r .strap) s (coeffs n c)
+
   abbrev good : StrapRes
-  good = record { answer = done; strap = there; res = record { 0 = resAt there s (coeffs n c) } }
+  good = record { answer = done; strap = there .strap; res = record { 0 = forceAt there } }
 
   abbrev question : Bool
-  question = allFinite (resSteps there s (coeffs n c))
+  question = allFinite (resSteps (there .one) (there .strap) s (coeffs n c))
 
-  answer-of : m .answer ≡ moved dir t s (coeffs n c) .answer
-  answer-of = ap (λ (r : StrapAnswer). r .answer) e
+  answer-of : m .answer ≡ there .answer
+  answer-of = ap (λ (r : Moved). r .answer) e
 
   pub res-refused : (m .answer .number ≡ 0 → ⊥) → refusedRes (m .answer) t ≡ calcResKnown dir t s (coeffs n c)
   unfolding calcResKnown
@@ -248,12 +245,12 @@ module _ (dir : Dir) (t : Strap) (s : TrainState) (n : ℕ) (c : List Float) {m 
         (omega (arith, placed .1), omega (arith, placed .2))
 
     -- k is the coefficient that the code works out
-    module _ {k : Float} (f : k ≡ calcResStrap (m .strap) s (coeffs n c)) where
-      force : k ⊗ weightOf s ≡ resAt there s (coeffs n c)
-      force = ap (λ (x : Float). x ⊗ weightOf s) f ∙ ap (λ (r : StrapAnswer). resAt (r .strap) s (coeffs n c)) e
+    module _ {k : Float} (f : k ≡ calcResStrap (m .one) (m .strap) s (coeffs n c)) where
+      force : k ⊗ weightOf s ≡ forceAt there
+      force = ap (λ (x : Float). x ⊗ weightOf s) f ∙ ap forceAt e
 
       asked-as : {b : Bool} → finite (k ⊗ weightOf s) ≡ b → question ≡ b
-      asked-as x = steps-finite there s (coeffs n c) ∙ ap finite (sym force) ∙ x
+      asked-as x = steps-finite (there .strap) s (coeffs n c) (there .one) ∙ ap finite (sym force) ∙ x
 
       pub res-8 : {r : Answer} → finite (k ⊗ weightOf s) ≡ false → r ≡ ask 8 false → refusedRes r t ≡ calcResKnown dir t s (coeffs n c)
       unfolding calcResKnown
@@ -274,9 +271,6 @@ module _ (s : TrainState) (n : ℕ) (c : List Float) where
   size : length (coeffs n c) ≡ n
   size = length-records triple triple-lawful n c
 
-  abbrev none : Strap
-  none = strapOf 0 0
-
   abbrev rear : Float
   rear = frontOf s ⊖ lengthOf s
 
@@ -285,46 +279,46 @@ module _ (s : TrainState) (n : ℕ) (c : List Float) where
   both-ends b =
       let back = cond b (search Fwd rear 0 rs) (notSearched 8) in
       let front = search Fwd (frontOf s) (back .idx) rs in
-      afterSearch none back (afterSearch none front (answered done (strapOf (front .idx) (back .idx))))
+      afterSearch noStrap back (afterSearch noStrap front (answered done (strapOf (front .idx) (back .idx))))
 
-  pub new-single : {a : Answer} → n ≤ 1 → a ≡ done → answered a none ≡ newKnown s rs
+  pub new-single : {a : Answer} → n ≤ 1 → a ≡ done → noStrap a ≡ newKnown s rs
   unfolding newKnown
-  new-single h e = rw (size, le-leb n 1 h) (ap (λ (x : Answer). answered x none) e)
+  new-single h e = rw (size, le-leb n 1 h) (ap noStrap e)
 
   module _ (h : 1 < n) where
     new-more : newKnown s rs ≡ both-ends (finite rear)
     unfolding newKnown
     new-more = rw (size, lt-leb n 1 h)
 
-    pub new-8 : {a : Answer} → finite rear ≡ false → a ≡ ask 8 false → answered a none ≡ newKnown s rs
-    new-8 t e = ap (λ (x : Answer). answered x none) e ∙ sym (new-more ∙ ap both-ends t)
+    pub new-8 : {a : Answer} → finite rear ≡ false → a ≡ ask 8 false → noStrap a ≡ newKnown s rs
+    new-8 t e = ap noStrap e ∙ sym (new-more ∙ ap both-ends t)
 
     module _ (t : finite rear ≡ true) {back : Searched} (e : back ≡ search Fwd rear 0 rs) where
-      pub new-back : (back .answer .number ≡ 0 → ⊥) → answered (back .answer) none ≡ newKnown s rs
-      new-back k = after-no none e _ k ∙ sym (new-more ∙ ap both-ends t)
+      pub new-back : (back .answer .number ≡ 0 → ⊥) → noStrap (back .answer) ≡ newKnown s rs
+      new-back k = after-no noStrap e _ k refl ∙ sym (new-more ∙ ap both-ends t)
 
       module _ (z : back .answer .number ≡ 0) {front : Searched} (f : front ≡ search Fwd (frontOf s) (back .idx) rs) where
-        abbrev then-front : ℕ → StrapAnswer
-        then-front i = afterSearch none (search Fwd (frontOf s) i rs) (answered done (strapOf (search Fwd (frontOf s) i rs .idx) i))
+        abbrev front-after : ℕ → StrapAnswer
+        front-after i = afterSearch noStrap (search Fwd (frontOf s) i rs) (answered done (strapOf (search Fwd (frontOf s) i rs .idx) i))
 
-        pub new-front : (front .answer .number ≡ 0 → ⊥) → answered (front .answer) none ≡ newKnown s rs
-        new-front k = after-yes none e then-front z (after-no none f _ k) ∙ sym (new-more ∙ ap both-ends t)
+        pub new-front : (front .answer .number ≡ 0 → ⊥) → noStrap (front .answer) ≡ newKnown s rs
+        new-front k = after-yes noStrap e z front-after (after-no noStrap f _ k refl) ∙ sym (new-more ∙ ap both-ends t)
 
         pub new-both : front .answer .number ≡ 0 → answered (front .answer) (strapOf (front .idx) (back .idx)) ≡ newKnown s rs
-        new-both y = after-yes none e then-front z (after-found none Fwd (frontOf s) (back .idx) rs f y (λ (i : ℕ). strapOf i (back .idx))) ∙ sym (new-more ∙ ap both-ends t)
+        new-both y =
+            let within = subst (Within rs) (sym f) (search-within Fwd (frontOf s) (back .idx) rs) y in
+            let found = ap (λ (a : Answer). answered a (strapOf (front .idx) (back .idx))) (within .0) in
+            after-yes noStrap e z front-after (after-yes noStrap f y (λ (i : ℕ). answered done (strapOf i (back .idx))) found) ∙ sym (new-more ∙ ap both-ends t)
 
 -- ---- behind questions 1 and 2, to which first is the code's answer
 module _ (s : TrainState) (n : ℕ) (c : List Float) {ok : Bool} (o : ok ≡ stateFinite s) {first : Answer} (l : first ≡ listAnswer ok n c) where
-  abbrev nowhere : Answer → StrapAnswer
-  nowhere a = answered a (strapOf 0 0)
-
-  pub new-refused : (first .number ≡ 0 → ⊥) → answered first (strapOf 0 0) ≡ newOf s n c
+  pub new-refused : (first .number ≡ 0 → ⊥) → noStrap first ≡ newOf s n c
   unfolding newOf
-  new-refused h = behind-no nowhere (list-of-state s n c o l) (newKnown s (coeffs n c)) h
+  new-refused h = behind-no noStrap (list-of-state s n c o l) (newKnown s (coeffs n c)) h
 
   pub new-passed : {r : StrapAnswer} → first .number ≡ 0 → r ≡ newKnown s (coeffs n c) → r ≡ newOf s n c
   unfolding newOf
-  new-passed z e = behind-yes nowhere (list-of-state s n c o l) z e
+  new-passed z e = behind-yes noStrap (list-of-state s n c o l) z e
 
   module _ (dir : Dir) (t : Strap) where
     pub calc-refused : (first .number ≡ 0 → ⊥) → refusedRes first t ≡ calcResOf dir t s n c

@@ -9,8 +9,8 @@ coeff-at-requires c κs = search needs
 
 returns : tie.Need-returns
 returns c =
-    let a = c .before .before .before .before .args in
-    one-record (a .strap) (a .state) (a .n) (a .col .now) (c .before .before .before .before .pre .0) (c .before .before .coeff-at .ensures) (c .if1 .taken)
+    let a = c .before .before .before .args in
+    one-record (a .strap) (a .state) (a .n) (a .col .now) (c .before .before .before .pre .0) (c .before .coeff-at .ensures) (c .if1 .taken)
 
 calc-res-val-requires : tie.Need-calc-res-val-requires
 calc-res-val-requires c κs = search needs
@@ -23,8 +23,8 @@ calc-res-val-requires-2 c κs = search needs
 
 returns-2 : tie.Need-returns-2
 returns-2 c =
-    let a = c .before .before .before .before .before .before .before .before .before .args in
-    two-records (a .strap) (a .state) (a .n) (a .col .now) (c .before .before .before .before .before .before .before .before .before .pre .0) (c .before .before .before .before .before .before .before .coeff-at .ensures) (c .before .before .before .before .before .if1 .left) (c .before .before .before .before .calc-res-val .ensures) (c .before .before .before .before .before .before .before .before .before .pre .1) (c .before .before .before .coeff-at2 .ensures) (c .before .before .calc-res-val2 .ensures)
+    let a = c .before .before .before .before .before .before .before .before .args in
+    two-records (a .strap) (a .state) (a .n) (a .col .now) (c .before .before .before .before .before .before .before .before .pre .0) (c .before .before .before .before .before .before .coeff-at .ensures) (c .before .before .before .before .before .if1 .left) (c .before .before .before .before .calc-res-val .ensures) (c .before .before .before .before .before .before .before .before .pre .1) (c .before .before .before .coeff-at2 .ensures) (c .before .before .calc-res-val2 .ensures)
 
 pub calc-res-strap-spec : {M : Type 1} → statement M
 calc-res-strap-spec =

@@ -8,15 +8,22 @@ use Rattle.resistance.proofs.strap.moved_front.Tie as tie
 search-requires : tie.Need-search-requires
 search-requires c κs = search needs
 
+not-moved-requires : tie.Need-not-moved-requires
+not-moved-requires c κs = search needs
+
 returns : tie.Need-returns
 returns c =
-    let a = c .before .before .before .before .before .args in
-    front-refused (a .dir) (a .strap) (a .state) (coeffs (a .n) (a .col .now)) (a .back) (c .before .before .before .search .ensures) (c .if1 .taken)
+    let a = c .before .before .before .before .before .before .args in
+    front-refused (a .dir) (a .strap) (a .state) (coeffs (a .n) (a .col .now)) (a .back) (c .before .before .before .before .search .ensures) (c .before .if1 .taken) (c .not-moved .ensures)
+
+moved-to-requires : tie.Need-moved-to-requires
+moved-to-requires c κs = search needs
 
 returns-2 : tie.Need-returns-2
 returns-2 c =
-    let a = c .before .before .before .before .before .args in
-    front-found (a .dir) (a .strap) (a .state) (coeffs (a .n) (a .col .now)) (a .back) (c .before .before .before .search .ensures) (c .if1 .left)
+    let a = c .before .before .before .before .before .before .args in
+    front-found (a .dir) (a .strap) (a .state) (coeffs (a .n) (a .col .now)) (a .back) (c .before .before .before .before .search .ensures) (c .before .if1 .left) (c .moved-to .ensures)
 
 pub moved-front-spec : {M : Type 1} → statement M
-moved-front-spec = tie.close (tie.spec search-requires returns returns-2)
+moved-front-spec =
+    tie.close (tie.spec search-requires not-moved-requires returns moved-to-requires returns-2)
