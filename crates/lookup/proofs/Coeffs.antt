@@ -13,7 +13,7 @@ use Rattle.ieee.specs.Number.{+0, +∞, allFinite}
 use Rattle.column.specs.Records.{recordAt}
 use Rattle.column.proofs.Filling.{getD-within}
 use Rattle.column.proofs.Bridge.{Lawful, record-at}
-use Rattle.lookup.specs.Coeff.{triple, coeffs, noCoeff, standsAt, offsetAt, closesWell, closingFinite, coeffsFinite}
+use Rattle.lookup.specs.Coeff.{resCoeff, triple, coeffs, noCoeff, coeffAt, standsAt, offsetAt, closesWell, closingFinite, coeffsFinite}
 
 pub triple-lawful : Lawful triple
 triple-lawful = record { length-pack = λ g. refl; unpack-pack = λ g l. refl; pack-unpack = back }
@@ -29,12 +29,25 @@ pub infinity : div binary64 (ofBits binary64 4607182418800017408) (ofBits binary
 unfolding div ofBits
 infinity = refl
 
--- the entry at 3 i is the offset of record i
-pub offset-entry : (n : ℕ) (c : List Float) (i : ℕ) → i < n → 3 * n ≤ length c → getD c (3 * i) nan ≡ offsetAt (coeffs n c) i
+-- the three entries from 3 i on are record i
+entry-at : (c : List Float) (i k : ℕ) → 3 * i + k < length c → getD c (3 * i + k) nan ≡ getD (drop (3 * i) c) k +0
+entry-at c i k h = getD-within c (3 * i + k) nan +0 h ∙ sym (getD-drop (3 * i) c k +0)
+
+pub coeff-entries :
+    (n : ℕ) (c : List Float) (i : ℕ)
+    → i < n
+    → 3 * n ≤ length c
+    → resCoeff (getD c (3 * i) nan) (getD c (3 * i + 1) nan) (getD c (3 * i + 2) nan) ≡ coeffAt (coeffs n c) i
 unfolding recordAt
-offset-entry n c i h k =
-    getD-within c (3 * i) nan +0 (omega arith)
-    ∙ sym (ap standsAt (record-at triple triple-lawful n c i noCoeff h) ∙ getD-drop (3 * i) c 0 +0 ∙ ap (λ (j : ℕ). getD c j +0) (add-zero (3 * i)))
+coeff-entries n c i h k =
+    let first : getD c (3 * i) nan ≡ getD (drop (3 * i) c) 0 +0 = ap (λ (j : ℕ). getD c j nan) (sym (add-zero (3 * i))) ∙ entry-at c i 0 (omega arith) in
+    let second = entry-at c i 1 (omega arith) in
+    let third = entry-at c i 2 (omega arith) in
+    rw (first, second, third) (sym (record-at triple triple-lawful n c i noCoeff h))
+
+-- the first of them is its offset
+pub offset-entry : (n : ℕ) (c : List Float) (i : ℕ) → i < n → 3 * n ≤ length c → getD c (3 * i) nan ≡ offsetAt (coeffs n c) i
+offset-entry n c i h k = ap standsAt (coeff-entries n c i h k)
 
 -- ---- question 1
 -- one record or more

@@ -40,8 +40,11 @@ coeffs n c = records triple n c
 abbrev pub noCoeff : PathResCoeff
 noCoeff = resCoeff +0 +0 +0
 
+abbrev pub coeffAt : List PathResCoeff → ℕ → PathResCoeff
+coeffAt rs i = getD rs i noCoeff
+
 abbrev pub offsetAt : List PathResCoeff → ℕ → Float
-offsetAt rs i = standsAt (getD rs i noCoeff)
+offsetAt rs i = standsAt (coeffAt rs i)
 
 -- "a value is net + coefficient × (offset − the record's)", one rounding a step
 unfoldable pub resVal : PathResCoeff → Float → Float

@@ -6,7 +6,7 @@ ghost use mathlib.Core.Path.{_≡_};
 ghost use Prim.Native.Nat.{_*_, _≤_, _<_};
 ghost use lib.ListN.{length};
 ghost use Rattle.column.specs.Records.{recordAt, putRecord};
-ghost use Rattle.lookup.specs.Coeff.{triple, coeffs, offsetAt, resVal, closesWell, coeffsFinite};
+ghost use Rattle.lookup.specs.Coeff.{triple, coeffs, coeffAt, offsetAt, resVal, closesWell, coeffsFinite};
 
 pub struct PathResCoeff {
     pub offset: Length,
@@ -30,6 +30,20 @@ pub fn coeff_at(col: &[f64], i: usize) -> PathResCoeff
         offset: Length(t.0),
         res_coeff: Ratio(t.1),
         res_net: Length(t.2),
+    }
+}
+
+// Record i of n that the column holds.
+pub fn coeff_in(col: &[f64], n: usize, i: usize) -> PathResCoeff
+    requires { ⌜ i < n ⌝ }
+    requires { ⌜ 3 * n ≤ length (now col) ⌝ }
+    ensures { λ r. ⌜ r ≡ coeffAt (coeffs n (now (col .entry))) i ⌝ }
+{
+    let k = 3 * i;
+    PathResCoeff {
+        offset: Length(col[k]),
+        res_coeff: Ratio(col[k + 1]),
+        res_net: Length(col[k + 2]),
     }
 }
 

@@ -10,14 +10,11 @@ use lib.ListN.{length}
 use lib.Ieee.{Float}
 use lib.Ieee.Scale.{finite}
 use Rattle.ieee.specs.Number.{+0, _⊖_, _⊗_, allFinite}
-use Rattle.column.specs.Records.{recordAt}
-use Rattle.column.proofs.Bridge.{record-at}
 use Rattle.lookup.specs.declared.lin_search_hint.Dir.{Dir}
 use Rattle.lookup.specs.declared.lin_search_hint.Found.{Found}
 use Rattle.lookup.specs.declared.path_res_coeff.PathResCoeff.{PathResCoeff}
-use Rattle.lookup.specs.Coeff.{triple, coeffs, noCoeff, standsAt, coefficientOf, netOf, resVal, coeffsFinite}
+use Rattle.lookup.specs.Coeff.{coeffs, coeffAt, standsAt, coefficientOf, netOf, resVal, coeffsFinite}
 use Rattle.lookup.specs.CalcIdx.{Indexed, indexed, findIn, listSound}
-use Rattle.lookup.proofs.Coeffs.{triple-lawful}
 use Rattle.lookup.proofs.Place.{found-below}
 use Rattle.link.proofs.Known.{and-both}
 use Rattle.path.specs.declared.path_tpc.Answer.{Answer}
@@ -28,7 +25,7 @@ use Rattle.train.specs.Position.{stateFinite}
 use Rattle.resistance.specs.declared.listed.Searched.{Searched}
 use Rattle.resistance.specs.declared.listed.CoeffAnswer.{CoeffAnswer}
 use Rattle.resistance.specs.declared.listed.NetAnswer.{NetAnswer}
-use Rattle.resistance.specs.Listed.{listAnswer, searchedOf, search, coeffAt, valueSteps, resCoeffOf, resNetOf}
+use Rattle.resistance.specs.Listed.{listAnswer, searchedOf, search, valueSteps, resCoeffOf, resNetOf}
 use Rattle.ieee.proofs.Finite.{add-finite-r, mul-finite-r}
 use Rattle.resistance.proofs.Answered.{settled-no, settled-yes, asked-no, then-no, then-yes, then-done}
 
@@ -120,10 +117,6 @@ value-finite g x =
     let up : T (finite (resVal g x)) → T (finite p) = add-finite-r (netOf g) p in
     last-of-three (finite d) (finite p) (finite (resVal g x)) (λ t. mul-finite-r (coefficientOf g) d (up t)) up
 
--- the record that the code reads out of the column
-pub coeff-read : (n : ℕ) (c : List Float) {i : ℕ} {g : PathResCoeff} → i < n → g ≡ recordAt triple c i → g ≡ coeffAt (coeffs n c) i
-coeff-read n c {i} h e = e ∙ sym (record-at triple triple-lawful n c i noCoeff h)
-
 -- first is the code's answer to questions 1 and 2
 module _ (i n : ℕ) (c : List Float) {first : Answer} (e : first ≡ listAnswer true n c) where
   abbrev asked-11 : List Answer
@@ -141,10 +134,10 @@ module _ (i n : ℕ) (c : List Float) {first : Answer} (e : first ≡ listAnswer
     unfolding resCoeffOf
     coeff-past f h = settled-no coefficient (f ∙ then-no e z 10 [] (le-ltb i n h)) (asked-no f)
 
-    pub coeff-found : {g : PathResCoeff} → i < n → g ≡ recordAt triple c i → record { answer = first; «res_coeff» = record { 0 = coefficientOf g } } ≡ resCoeffOf i n c
+    pub coeff-found : {g : PathResCoeff} → i < n → g ≡ coeffAt (coeffs n c) i → record { answer = first; «res_coeff» = record { 0 = coefficientOf g } } ≡ resCoeffOf i n c
     unfolding resCoeffOf
     coeff-found h f =
-        ap₂ (λ (a : Answer) (k : PathResCoeff). record { answer = a; «res_coeff» = record { 0 = coefficientOf k } }) (list-answered true n c e z) (coeff-read n c h f)
+        ap₂ (λ (a : Answer) (k : PathResCoeff). record { answer = a; «res_coeff» = record { 0 = coefficientOf k } }) (list-answered true n c e z) f
         ∙ settled-yes coefficient (then-done e z 10 (lt-ltb i n h)) refl
 
 module _ (i : ℕ) (x : Float) (s : TrainState) (n : ℕ) (c : List Float) {ok : Bool} (o : ok ≡ stateFinite s) {first : Answer} (l : first ≡ listAnswer ok n c) where
@@ -167,9 +160,9 @@ module _ (i : ℕ) (x : Float) (s : TrainState) (n : ℕ) (c : List Float) {ok :
     net-past f h = settled-no net (f ∙ then-no e z 10 asked-8 (le-ltb i n h)) (asked-no f)
 
     -- v is the value that the code works out
-    module _ (h : i < n) {g : PathResCoeff} (f : g ≡ recordAt triple c i) {v : Float} (w : v ≡ resVal g x) where
+    module _ (h : i < n) {g : PathResCoeff} (f : g ≡ coeffAt (coeffs n c) i) {v : Float} (w : v ≡ resVal g x) where
       value : v ≡ resVal (coeffAt (coeffs n c) i) x
-      value = w ∙ ap (λ (k : PathResCoeff). resVal k x) (coeff-read n c h f)
+      value = w ∙ ap (λ (k : PathResCoeff). resVal k x) f
 
       -- question 8 after the others
       net-last : {b : Bool} → finite v ≡ b → ask 8 b ≡ inTurn (listAnswer (stateFinite s) n c ∷ ask 11 (ltb i n) ∷ asked-8)

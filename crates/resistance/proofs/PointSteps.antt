@@ -9,11 +9,10 @@ use lib.ListN.{length}
 use lib.Ieee.{Float}
 use lib.Ieee.Scale.{finite}
 use Rattle.ieee.specs.Number.{_⊗_}
-use Rattle.column.specs.Records.{recordAt}
 use Rattle.column.proofs.Bridge.{length-records}
 use Rattle.lookup.specs.declared.lin_search_hint.Dir.{Dir}
 use Rattle.lookup.specs.declared.path_res_coeff.PathResCoeff.{PathResCoeff}
-use Rattle.lookup.specs.Coeff.{triple, coeffs, coefficientOf}
+use Rattle.lookup.specs.Coeff.{triple, coeffs, coeffAt, coefficientOf}
 use Rattle.lookup.proofs.Coeffs.{triple-lawful}
 use Rattle.path.specs.declared.path_tpc.Answer.{Answer}
 use Rattle.path.specs.Answers.{done, ask}
@@ -23,11 +22,11 @@ use Rattle.resistance.specs.declared.listed.Searched.{Searched}
 use Rattle.resistance.specs.declared.point.Point.{Point}
 use Rattle.resistance.specs.declared.point.PointAnswer.{PointAnswer}
 use Rattle.resistance.specs.declared.point.PointRes.{PointRes}
-use Rattle.resistance.specs.Listed.{listAnswer, search, notSearched, coeffAt}
+use Rattle.resistance.specs.Listed.{listAnswer, search, notSearched}
 use Rattle.resistance.specs.Point.{half, pointOf, middle, searchMiddle, resAt, newKnown, refusedRes, calcResKnown, newOf, calcResOf, fixCache}
 use Rattle.ieee.proofs.Finite.{sub-finite-r}
 use Rattle.resistance.proofs.Answered.{one-no, one-yes, behind-no, behind-yes, both-first, both-second, both-done}
-use Rattle.resistance.proofs.ListSteps.{list-of-state, Within, search-within, implied, coeff-read}
+use Rattle.resistance.proofs.ListSteps.{list-of-state, Within, search-within, implied}
 
 -- ---- the search of the middle
 module _ (dir : Dir) (hint : ℕ) (s : TrainState) (rs : List PathResCoeff) where
@@ -73,15 +72,16 @@ module _ (dir : Dir) (p : Point) (s : TrainState) (n : ℕ) (c : List Float) {m 
   unfolding calcResKnown
   res-refused h = both-first refuse good answer-is 7 question h
 
-  -- g is the record that the code reads
-  module _ (z : m .answer .number ≡ 0) {g : PathResCoeff} (f : g ≡ recordAt triple c (m .idx)) where
-    within : (m .answer ≡ done) × (m .idx < length (coeffs n c))
-    within = subst (Within (coeffs n c)) (sym e) (middle-within dir (p .idx) s (coeffs n c)) z
+  within : m .answer .number ≡ 0 → (m .answer ≡ done) × (m .idx < length (coeffs n c))
+  within = subst (Within (coeffs n c)) (sym e) (middle-within dir (p .idx) s (coeffs n c))
 
+  pub res-below : m .answer .number ≡ 0 → m .idx < n
+  res-below z = omega (arith, within z .1, length-records triple triple-lawful n c)
+
+  -- g is the record that the code reads
+  module _ (z : m .answer .number ≡ 0) {g : PathResCoeff} (f : g ≡ coeffAt (coeffs n c) (m .idx)) where
     force : coefficientOf g ⊗ weightOf s ≡ resAt there s (coeffs n c)
-    force =
-        let below : m .idx < n = omega (arith, within .1, length-records triple triple-lawful n c) in
-        ap (λ (k : PathResCoeff). coefficientOf k ⊗ weightOf s) (coeff-read n c below f ∙ ap (λ (r : Searched). coeffAt (coeffs n c) (r .idx)) e)
+    force = ap (λ (k : PathResCoeff). coefficientOf k ⊗ weightOf s) (f ∙ ap (λ (r : Searched). coeffAt (coeffs n c) (r .idx)) e)
 
     pub res-8 : {r : Answer} → finite (coefficientOf g ⊗ weightOf s) ≡ false → r ≡ ask 8 false → refusedRes r p ≡ calcResKnown dir p s (coeffs n c)
     unfolding calcResKnown
@@ -92,7 +92,7 @@ module _ (dir : Dir) (p : Point) (s : TrainState) (n : ℕ) (c : List Float) {m 
     res-found t = given ∙ both-done refuse good answer-is 7 question z (ap finite (sym force) ∙ t)
       where
         given : record { answer = m .answer; point = pointOf (m .idx); res = record { 0 = coefficientOf g ⊗ weightOf s } } ≡ good
-        given = cc (within .0, e, force)
+        given = cc (within z .0, e, force)
 
 -- ---- behind questions 1 and 2, to which first is the code's answer
 module _ (s : TrainState) (n : ℕ) (c : List Float) {ok : Bool} (o : ok ≡ stateFinite s) {first : Answer} (l : first ≡ listAnswer ok n c) where

@@ -10,13 +10,12 @@ use lib.ListN.{length}
 use lib.Ieee.{Float}
 use lib.Ieee.Scale.{finite}
 use Rattle.ieee.specs.Number.{_⊖_, _⊗_, _⊘_, allFinite}
-use Rattle.column.specs.Records.{recordAt}
 use Rattle.column.proofs.Bridge.{length-records}
 use Rattle.column.proofs.Finite.{finite-append}
 use Rattle.lookup.specs.declared.lin_search_hint.Dir.{Dir}
 use Rattle.lookup.specs.declared.lin_search_hint.Dir.the-variants.{Unk, Fwd, Bwd}
 use Rattle.lookup.specs.declared.path_res_coeff.PathResCoeff.{PathResCoeff}
-use Rattle.lookup.specs.Coeff.{triple, coeffs, coefficientOf, resVal}
+use Rattle.lookup.specs.Coeff.{triple, coeffs, coeffAt, coefficientOf, resVal}
 use Rattle.lookup.proofs.Coeffs.{triple-lawful}
 use Rattle.path.specs.declared.path_tpc.Answer.{Answer}
 use Rattle.path.specs.Answers.{done, isDone, ask}
@@ -27,11 +26,11 @@ use Rattle.resistance.specs.declared.strap.Strap.{Strap}
 use Rattle.resistance.specs.declared.strap.Moved.{Moved}
 use Rattle.resistance.specs.declared.strap.StrapAnswer.{StrapAnswer}
 use Rattle.resistance.specs.declared.strap.StrapRes.{StrapRes}
-use Rattle.resistance.specs.Listed.{listAnswer, search, notSearched, coeffAt, valueSteps}
+use Rattle.resistance.specs.Listed.{listAnswer, search, notSearched, valueSteps}
 use Rattle.resistance.specs.Strap.{strapOf, frontIdx, backIdx, answered, afterSearch, movedTo, notMoved, movedBack, movedFront, moved, frontValue, backValue, calcResStrap, resAt, resSteps, noStrap, newKnown, refusedRes, calcResKnown, newOf, calcResOf, fixCache}
 use Rattle.ieee.proofs.Finite.{sub-finite-l, sub-finite-r, mul-finite-l, div-finite-l}
 use Rattle.resistance.proofs.Answered.{one-no, one-yes, behind-no, behind-yes, both-first, both-second, both-done}
-use Rattle.resistance.proofs.ListSteps.{list-of-state, Within, search-within, implied, last-of-three, value-finite, coeff-read}
+use Rattle.resistance.proofs.ListSteps.{list-of-state, Within, search-within, implied, last-of-three, value-finite}
 
 -- ---- what follows a search; r is the code's answer of it, and m what the code gives
 module _ {A : Type 0} (refuse : Answer → A) {found r : Searched} (e : r ≡ found) where
@@ -167,17 +166,17 @@ module _ (t : Strap) (s : TrainState) (rs : List PathResCoeff) where
   moved-placed Unk = after-placed rs t _ _ (search-within Unk (frontOf s) (frontIdx t) rs) (λ f. back-placed Unk _ true f)
 
 -- ---- the coefficient at two indices; g is the front's record as the code reads it
-module _ {one : Bool} (t : Strap) (s : TrainState) (n : ℕ) (c : List Float) (h : frontIdx t < n) {g : PathResCoeff} (e : g ≡ recordAt triple c (frontIdx t)) where
-  pub one-record : one ≡ true → coefficientOf g ≡ calcResStrap one t s (coeffs n c)
+module _ {one : Bool} (t : Strap) (s : TrainState) (rs : List PathResCoeff) {g : PathResCoeff} (e : g ≡ coeffAt rs (frontIdx t)) where
+  pub one-record : one ≡ true → coefficientOf g ≡ calcResStrap one t s rs
   unfolding calcResStrap
-  one-record k = rw k (ap coefficientOf (coeff-read n c h e))
+  one-record k = rw k (ap coefficientOf e)
 
-  pub two-records : one ≡ false → {v : Float} → v ≡ resVal g (frontOf s) → backIdx t < n → {k : PathResCoeff} → k ≡ recordAt triple c (backIdx t) → {w : Float} → w ≡ resVal k (backOf s)
-      → (v ⊖ w) ⊘ lengthOf s ≡ calcResStrap one t s (coeffs n c)
+  pub two-records : one ≡ false → {v : Float} → v ≡ resVal g (frontOf s) → {k : PathResCoeff} → k ≡ coeffAt rs (backIdx t) → {w : Float} → w ≡ resVal k (backOf s)
+      → (v ⊖ w) ⊘ lengthOf s ≡ calcResStrap one t s rs
   unfolding calcResStrap
-  two-records d {v} a b {k} f {w} u =
-      let x : v ≡ frontValue t s (coeffs n c) = a ∙ ap (λ (r : PathResCoeff). resVal r (frontOf s)) (coeff-read n c h e) in
-      let y : w ≡ backValue t s (coeffs n c) = u ∙ ap (λ (r : PathResCoeff). resVal r (backOf s)) (coeff-read n c b f) in
+  two-records d {v} a {k} f {w} u =
+      let x : v ≡ frontValue t s rs = a ∙ ap (λ (r : PathResCoeff). resVal r (frontOf s)) e in
+      let y : w ≡ backValue t s rs = u ∙ ap (λ (r : PathResCoeff). resVal r (backOf s)) f in
       rw d (ap₂ (λ (p q : Float). (p ⊖ q) ⊘ lengthOf s) x y)
 
 -- ---- the resistance is finite only where every result on the way is

@@ -3,12 +3,11 @@ use Prim.Native.Nat.{ℕ}
 use mathlib.Core.Bool.{Bool, true, _&&_, cond}
 use mathlib.Core.List.{List, [], _∷_}
 use lib.Dec.{ltb}
-use lib.ListN.{getD}
 use lib.Ieee.{Float}
 use Rattle.ieee.specs.Number.{+0, _⊖_, _⊗_, allFinite}
 use Rattle.lookup.specs.declared.lin_search_hint.Dir.{Dir}
 use Rattle.lookup.specs.declared.path_res_coeff.PathResCoeff.{PathResCoeff}
-use Rattle.lookup.specs.Coeff.{coeffs, noCoeff, standsAt, coefficientOf, resVal, coeffsFinite}
+use Rattle.lookup.specs.Coeff.{coeffs, coeffAt, standsAt, coefficientOf, resVal, coeffsFinite}
 use Rattle.lookup.specs.CalcIdx.{Indexed, findIn, listSound}
 use Rattle.path.specs.declared.path_tpc.Answer.{Answer}
 use Rattle.path.specs.Answers.{isDone, ask, inTurn}
@@ -38,9 +37,6 @@ abbrev pub notSearched : ℕ → Searched
 notSearched n = record { answer = record { number = n; place = 0 }; idx = 0 }
 
 -- ---- one record
-
-abbrev pub coeffAt : List PathResCoeff → ℕ → PathResCoeff
-coeffAt rs i = getD rs i noCoeff
 
 -- every result on the way to a value, in the order of the operations
 abbrev pub valueSteps : PathResCoeff → Float → List Float

@@ -10,7 +10,7 @@ use Rattle.ieee.specs.Number.{+0, _⊖_, _⊗_}
 use Rattle.lookup.specs.declared.lin_search_hint.Dir.{Dir}
 use Rattle.lookup.specs.declared.lin_search_hint.Dir.the-variants.{Fwd}
 use Rattle.lookup.specs.declared.path_res_coeff.PathResCoeff.{PathResCoeff}
-use Rattle.lookup.specs.Coeff.{coeffs, coefficientOf}
+use Rattle.lookup.specs.Coeff.{coeffs, coeffAt, coefficientOf}
 use Rattle.path.specs.declared.path_tpc.Answer.{Answer}
 use Rattle.path.specs.Answers.{done, isDone, ask, inTurn}
 use Rattle.train.specs.declared.train_state.TrainState.{TrainState}
@@ -19,7 +19,7 @@ use Rattle.resistance.specs.declared.listed.Searched.{Searched}
 use Rattle.resistance.specs.declared.point.Point.{Point}
 use Rattle.resistance.specs.declared.point.PointAnswer.{PointAnswer}
 use Rattle.resistance.specs.declared.point.PointRes.{PointRes}
-use Rattle.resistance.specs.Listed.{listAnswer, search, notSearched, coeffAt}
+use Rattle.resistance.specs.Listed.{listAnswer, search, notSearched}
 
 -- 0.5
 abbrev pub half : Float

@@ -10,7 +10,7 @@ use Rattle.ieee.specs.Number.{+0, _⊖_, _⊗_, _⊘_, allFinite}
 use Rattle.lookup.specs.declared.lin_search_hint.Dir.{Dir}
 use Rattle.lookup.specs.declared.lin_search_hint.Dir.the-variants.{Unk, Fwd, Bwd}
 use Rattle.lookup.specs.declared.path_res_coeff.PathResCoeff.{PathResCoeff}
-use Rattle.lookup.specs.Coeff.{coeffs, coefficientOf, resVal}
+use Rattle.lookup.specs.Coeff.{coeffs, coeffAt, coefficientOf, resVal}
 use Rattle.path.specs.declared.path_tpc.Answer.{Answer}
 use Rattle.path.specs.Answers.{done, isDone, ask, inTurn}
 use Rattle.train.specs.declared.train_state.TrainState.{TrainState}
@@ -20,7 +20,7 @@ use Rattle.resistance.specs.declared.strap.Strap.{Strap}
 use Rattle.resistance.specs.declared.strap.Moved.{Moved}
 use Rattle.resistance.specs.declared.strap.StrapAnswer.{StrapAnswer}
 use Rattle.resistance.specs.declared.strap.StrapRes.{StrapRes}
-use Rattle.resistance.specs.Listed.{listAnswer, search, notSearched, coeffAt, valueSteps}
+use Rattle.resistance.specs.Listed.{listAnswer, search, notSearched, valueSteps}
 
 abbrev pub strapOf : ℕ → ℕ → Strap
 strapOf front back = record { «idx_front» = front; «idx_back» = back }

@@ -2,7 +2,7 @@
 use lookup::lin_search_hint::Dir;
 use lookup::lin_search_hint::Found;
 use lookup::path_res_coeff::calc_res_val;
-use lookup::path_res_coeff::coeff_at;
+use lookup::path_res_coeff::coeff_in;
 use lookup::path_res_coeff::coeffs_finite;
 use lookup::search::find;
 use path::answer::asked;
@@ -109,7 +109,7 @@ pub fn res_coeff(idx: usize, col: &[f64], n: usize) -> CoeffAnswer
             res_coeff: Ratio(0.0),
         };
     }
-    let g = coeff_at(col, idx);
+    let g = coeff_in(col, n, idx);
     CoeffAnswer {
         answer: first,
         res_coeff: Ratio(g.res_coeff.0),
@@ -134,7 +134,7 @@ pub fn res_net(idx: usize, x: Length, col: &[f64], n: usize, state: TrainState) 
             res_net: Length(0.0),
         };
     }
-    let v = calc_res_val(coeff_at(col, idx), x);
+    let v = calc_res_val(coeff_in(col, n, idx), x);
     if !ieee::is_finite(v.0) {
         return NetAnswer {
             answer: asked(8, false),

@@ -7,7 +7,7 @@ use crate::listed::res_coeff;
 use crate::listed::res_net;
 use crate::listed::search;
 use lookup::lin_search_hint::Dir;
-use lookup::path_res_coeff::coeff_at;
+use lookup::path_res_coeff::coeff_in;
 use path::answer::asked;
 use path::path_tpc::Answer;
 use si::Force;
@@ -102,7 +102,7 @@ pub fn calc_res_known(point: Point, col: &[f64], n: usize, state: TrainState, di
             res: Force(0.0),
         };
     }
-    let g = coeff_at(col, s.idx);
+    let g = coeff_in(col, n, s.idx);
     let res = g.res_coeff.0 * state.weight_static.0;
     if !ieee::is_finite(res) {
         return PointRes {

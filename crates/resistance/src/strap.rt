@@ -7,7 +7,7 @@ use crate::listed::res_net;
 use crate::listed::search;
 use lookup::lin_search_hint::Dir;
 use lookup::path_res_coeff::calc_res_val;
-use lookup::path_res_coeff::coeff_at;
+use lookup::path_res_coeff::coeff_in;
 use path::answer::asked;
 use path::path_tpc::Answer;
 use si::Force;
@@ -191,14 +191,15 @@ fn moved_by(strap: Strap, col: &[f64], n: usize, state: TrainState, dir: Dir) ->
 fn calc_res_strap(one: bool, strap: Strap, col: &[f64], n: usize, state: TrainState) -> Ratio
     requires { ⌜ strap .«idx_front» < n ⌝ }
     requires { ⌜ strap .«idx_back» < n ⌝ }
+    requires { ⌜ 3 * n ≤ length (now col) ⌝ }
     ensures { λ r. ⌜ r .0 ≡ spec.calcResStrap one strap state (coeffs n (now (col .entry))) ⌝ }
 {
-    let front = coeff_at(col, strap.idx_front);
+    let front = coeff_in(col, n, strap.idx_front);
     if one {
         return Ratio(front.res_coeff.0);
     }
     let front_value = calc_res_val(front, Length(state.offset.0));
-    let back = coeff_at(col, strap.idx_back);
+    let back = coeff_in(col, n, strap.idx_back);
     let back_value = calc_res_val(back, Length(state.offset_back.0));
     let length = state.length.0;
     Ratio((front_value.0 - back_value.0) / length)

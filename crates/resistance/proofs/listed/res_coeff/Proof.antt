@@ -1,6 +1,7 @@
 -- `res_coeff`: question by question, and then the coefficient.
+use mathlib.Core.Bool.{true}
 use lib.Ieee.{ofBits}
-use Rattle.resistance.proofs.ListSteps.{coeff-refused, coeff-past, coeff-found}
+use Rattle.resistance.proofs.ListSteps.{list-done, coeff-refused, coeff-past, coeff-found}
 use borrow.Author.Needs.{needs}
 use Rattle.resistance.proofs.listed.res_coeff.Statement.{statement}
 use Rattle.resistance.proofs.listed.res_coeff.Tie as tie
@@ -23,15 +24,17 @@ returns-2 c =
     let a = c .before .before .before .before .before .before .args in
     coeff-past (a .idx) (a .n) (a .col .now) (c .before .before .before .before .list-answer .ensures) (c .before .before .if1 .left) (c .asked .ensures) (c .before .if2 .taken)
 
-coeff-at-requires : tie.Need-coeff-at-requires
-coeff-at-requires c κs = search needs
+coeff-in-requires : tie.Need-coeff-in-requires
+coeff-in-requires c κs =
+    let a = c .before .before .before .before .before .args in
+    (c .if2 .left, list-done true (a .n) (a .col .now) (c .before .before .before .list-answer .ensures) (c .before .if1 .left) .1)
 
 returns-3 : tie.Need-returns-3
 returns-3 c =
     let a = c .before .before .before .before .before .before .args in
-    coeff-found (a .idx) (a .n) (a .col .now) (c .before .before .before .before .list-answer .ensures) (c .before .before .if1 .left) (c .before .if2 .left) (c .coeff-at .ensures)
+    coeff-found (a .idx) (a .n) (a .col .now) (c .before .before .before .before .list-answer .ensures) (c .before .before .if1 .left) (c .before .if2 .left) (c .coeff-in .ensures)
 
 pub res-coeff-spec : {M : Type 1} → statement M
 res-coeff-spec =
     tie.close
-    (tie.spec list-answer-requires returns asked-requires returns-2 coeff-at-requires returns-3)
+    (tie.spec list-answer-requires returns asked-requires returns-2 coeff-in-requires returns-3)

@@ -19,7 +19,8 @@ returns c =
 calc-res-strap-requires : tie.Need-calc-res-strap-requires
 calc-res-strap-requires c κs =
     let a = c .before .before .before .before .before .before .args in
-    moved-below (a .dir) (a .strap) (a .state) (a .n) (a .col .now) (c .before .before .before .before .moved-by .ensures) (c .before .if1 .left)
+    let below = moved-below (a .dir) (a .strap) (a .state) (a .n) (a .col .now) (c .before .before .before .before .moved-by .ensures) (c .before .if1 .left) in
+    (below .0, (below .1, c .before .before .before .before .before .before .pre .1))
 
 is-finite-requires : tie.Need-is-finite-requires
 is-finite-requires c κs = search needs
