@@ -6,7 +6,10 @@ use path::path_tpc::Answer;
 use resistance::strap::Strap;
 use resistance::strap::StrapAnswer;
 use resistance::strap::StrapRes;
+use resistance::walk::Walked;
+use resistance::walk::walk_known;
 use si::Force;
+use si::Length;
 use train::train_state::TrainState;
 ghost use mathlib.Core.Path.{_≡_};
 ghost use mathlib.Core.Bool.{true, false};
@@ -16,6 +19,8 @@ ghost use Rattle.lookup.specs.Coeff.{coeffs};
 ghost use Rattle.path.specs.Answers.{ask};
 ghost use Rattle.resistance.specs.Listed.{listAnswer};
 ghost use Rattle.resistance.specs.Strap as straps;
+ghost use Rattle.resistance.specs.Walk.{walk, walkedTo};
+ghost use Rattle.ieee.specs.Number.{+0};
 ghost use Rattle.capi.specs.Codes.{dirOf, directed};
 
 // Questions 1 and 2 of a list.
@@ -55,6 +60,32 @@ pub extern "C" fn mochaspit_strap_calc_res_known(
             answer: asked(1, false),
             strap,
             res: Force(0.0),
+        },
+    }
+}
+
+// A strap over count positions, the first at state and each a step further, in a list that passed them; the first refusal ends the walk.
+#[no_mangle]
+pub extern "C" fn mochaspit_strap_walk_known(
+    strap: Strap,
+    col: &[f64],
+    n: usize,
+    state: TrainState,
+    dir: u32,
+    step: Length,
+    count: usize,
+) -> Walked
+    requires { ⌜ 0 < n ⌝ }
+    requires { ⌜ 3 * n ≤ length (now col) ⌝ }
+    ensures { λ r. ⌜ r ≡ directed (dirOf dir) (λ d. walk d (step .0) count strap state +0 0 (coeffs n (now (col .entry)))) (walkedTo (ask 1 false) strap +0 0) ⌝ }
+{
+    match dir_of(dir) {
+        DirCode::Known(d) => walk_known(strap, col, n, state, d, step, count),
+        DirCode::Unknown => Walked {
+            answer: asked(1, false),
+            strap,
+            res: Force(0.0),
+            count: 0,
         },
     }
 }

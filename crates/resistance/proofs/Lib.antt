@@ -3,3 +3,4 @@ pub mod Answered
 pub mod ListSteps
 pub mod PointSteps
 pub mod StrapSteps
+pub mod WalkSteps
