@@ -580,6 +580,22 @@ mochaspit_strap_answer mochaspit_strap_new_known(const double *col, size_t col_l
 mochaspit_strap_res mochaspit_strap_calc_res_known(
     mochaspit_strap strap, const double *col, size_t col_len, size_t n, mochaspit_train_state state, uint32_t dir);
 
+/* Where a walk ended: the strap and the force of the last position that was done, and how many were. */
+typedef struct mochaspit_walked {
+    mochaspit_answer answer;
+    mochaspit_strap strap;
+    double res;
+    size_t count;
+} mochaspit_walked;
+
+/*
+ * mochaspit_strap_calc_res_known at count positions, the first at state, and front and back of each step metres further than those of the one before.
+ * Questions: those of mochaspit_strap_calc_res_known at each position in turn; the first refusal ends the walk.
+ * Comes back: the strap and the force of the last position that was done, and how many were done; the given strap, force 0 and 0 where none was.
+ */
+mochaspit_walked mochaspit_strap_walk_known(
+    mochaspit_strap strap, const double *col, size_t col_len, size_t n, mochaspit_train_state state, uint32_t dir, double step, size_t count);
+
 #ifdef __cplusplus
 }
 #endif

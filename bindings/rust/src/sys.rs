@@ -153,6 +153,15 @@ pub struct StrapRes {
     pub res: f64,
 }
 
+#[repr(C)]
+#[derive(Clone, Copy, Debug, Default)]
+pub struct Walked {
+    pub answer: Answer,
+    pub strap: Strap,
+    pub res: f64,
+    pub count: usize,
+}
+
 /// Declares a call with the path's seven columns, lent to be written or to be read, and with or without a link table.
 macro_rules! path_call {
     ($name:ident($($arg:ident: $t:ty),*) writes -> $r:ty) => {
@@ -229,4 +238,7 @@ extern "C" {
     pub fn mochaspit_list_answer(col: *const f64, col_len: usize, n: usize) -> Answer;
     pub fn mochaspit_strap_new_known(col: *const f64, col_len: usize, n: usize, state: TrainState) -> StrapAnswer;
     pub fn mochaspit_strap_calc_res_known(strap: Strap, col: *const f64, col_len: usize, n: usize, state: TrainState, dir: u32) -> StrapRes;
+    pub fn mochaspit_strap_walk_known(
+        strap: Strap, col: *const f64, col_len: usize, n: usize, state: TrainState, dir: u32, step: f64, count: usize,
+    ) -> Walked;
 }

@@ -1,8 +1,8 @@
 -- Question 2 of a path that is read out of its columns, clause by clause.
 use Prim.Native.Nat.{ℕ, _+_, _*_, _/_, _≤_, _<_}
 use native.Mathlib.Nat.{le-trans, mul-le-mul-left, mul-div-le}
-use mathlib.Core.Path.{_≡_, sym, _∙_}
-use mathlib.Core.Bool.{Bool, true, false, not, _&&_, _||_}
+use mathlib.Core.Path.{_≡_, refl, sym, ap, _∙_}
+use mathlib.Core.Bool.{Bool, true, false, not, _&&_, _||_, and-assoc, and-comm}
 use lib.Dec.{eqb, leb}
 use native.Mathlib.Omega.{arith}
 use borrow.Author.Tests.{eqb-true, leb-true}
@@ -25,6 +25,11 @@ within-all n bound a b e =
 -- n records of w entries, where so many whole records fit
 pub times : (w n k : ℕ) → n ≤ k / w → w * n ≤ k
 times w n k h = le-trans (mul-le-mul-left w h) (mul-div-le k w)
+
+-- the last clause is asked beside the first one
+last-first : (a b d e f : Bool) → ((a && f) && (b && (d && e))) ≡ (a && (b && (d && (e && f))))
+last-first false b d e f = refl
+last-first true b d e f = and-comm f (b && (d && e)) ∙ and-assoc b (d && e) f ∙ ap (λ (t : Bool). b && t) (and-assoc d e f)
 
 module _ (p : PathTpc) (c : Columns) where
   -- ---- the answer, question by question
@@ -105,22 +110,37 @@ module _ (p : PathTpc) (c : Columns) where
 
   -- the answers of the clauses, joined as the code joins them
   pub joined :
-      {q first : LinkPoint} {sums g k ended rise real sorted slopes bends : Bool}
+      {first : LinkPoint} {lead g k ended rise real sorted : Bool}
       → 0 < p .«link_count»
-      → q ≡ totals (linkPoints (p .«link_count») (c .offsets) (c .numbers))
-      → first ≡ pointAt (c .offsets) (c .numbers) 0
       → g ≡ closes (coeffs (p .«grade_count») (c .grades))
       → k ≡ closes (coeffs (p .«curve_count») (c .curves))
       → ended ≡ endCountsZero (linkPoints (p .«link_count») (c .offsets) (c .numbers))
       → rise ≡ offsetsRise (linkPoints (p .«link_count») (c .offsets) (c .numbers))
       → real ≡ numbersReal (linkPoints (p .«link_count») (c .offsets) (c .numbers))
+      → first ≡ pointAt (c .offsets) (c .numbers) 0
       → sorted ≡ sortedFrom (offsetOf first) (points (p .«speed_count») (c .speeds))
-      → slopes ≡ firstAtOffset (countOf false) 0 (linkPoints (p .«link_count») (c .offsets) (c .numbers)) (coeffs (p .«grade_count») (c .grades))
-      → bends ≡ firstAtOffset (countOf true) 0 (linkPoints (p .«link_count») (c .offsets) (c .numbers)) (coeffs (p .«curve_count») (c .curves))
-      → sums ≡ addUp p q
-      → (sums && ((not (p .«is_finished») || (g && k)) && ((ended && (rise && real)) && (sorted && (slopes && bends))))) ≡ soundPath (pathOf p c)
+      → lead
+      ≡ (addUp p (totals (linkPoints (p .«link_count») (c .offsets) (c .numbers)))
+      && (firstAtOffset (countOf false) 0 (linkPoints (p .«link_count») (c .offsets) (c .numbers)) (coeffs (p .«grade_count») (c .grades))
+      && firstAtOffset (countOf true) 0 (linkPoints (p .«link_count») (c .offsets) (c .numbers)) (coeffs (p .«curve_count») (c .curves))))
+      → (lead && ((not (p .«is_finished») || (g && k)) && ((ended && (rise && real)) && sorted))) ≡ soundPath (pathOf p c)
   unfolding linksSound
-  joined h e₁ e₂ e₃ e₄ e₅ e₆ e₇ e₈ e₉ e₁₀ e₁₁ = cc (clauses h, e₁, e₂, e₃, e₄, e₅, e₆, e₇, e₈, e₉, e₁₀, e₁₁)
+  joined {sorted = sorted} h e₁ e₂ e₃ e₄ e₅ e₆ e₇ e₈ =
+      let ps = linkPoints (p .«link_count») (c .offsets) (c .numbers) in
+      let grades = coeffs (p .«grade_count») (c .grades) in
+      let curves = coeffs (p .«curve_count») (c .curves) in
+      cc (
+        clauses h,
+        e₁,
+        e₂,
+        e₃,
+        e₄,
+        e₅,
+        e₆,
+        e₇,
+        e₈,
+        last-first (addUp p (totals ps)) (not (p .«is_finished») || (closes grades && closes curves)) (linksSound ps) sorted (firstAtOffset (countOf false) 0 ps grades && firstAtOffset (countOf true) 0 ps curves),
+      )
 
 -- ---- the counts of the link points
 

@@ -3,13 +3,12 @@ use Prim.Native.Nat.{ℕ, zero, suc, _+_, _*_, _≤_, _<_, _^_, _-_}
 use native.Mathlib.Nat.{le-of-suc-le-suc}
 use native.Mathlib.Omega.{arith}
 use mathlib.Core.Path.{_≡_, refl, sym, ap, ap₂, _∙_}
-use mathlib.Core.Bool.{Bool, true, false}
+use mathlib.Core.Bool.{Bool, true, false, _&&_}
 use mathlib.Core.List.{List, [], _∷_}
-use lib.ListN.{length, getD, take, List·getD-eq-default}
+use lib.ListN.{length, getD, take}
 use lib.Ieee.{Float}
 use mir.Syntax.{w32, w64}
 use mir.Val.{Fits}
-use Rattle.ieee.specs.Number.{+0}
 use Rattle.column.specs.Records.{recordAt, three}
 use Rattle.column.proofs.Entry.{four-entries}
 use Rattle.column.proofs.Bridge.{length-records, record-at}
@@ -25,14 +24,9 @@ use Rattle.link.specs.Lists.{upFrom}
 use Rattle.link.proofs.Loops.{range-more, range-none}
 
 -- ---- the offset of record i of m
-module _ (m : ℕ) (c : List Float) (i : ℕ) where
-  pub offset-of : i < m → offsetAt (coeffs m c) i ≡ recordAt three c i .0
-  unfolding recordAt
-  offset-of h = ap standsAt (record-at triple triple-lawful m c i noCoeff h)
-
-  -- past the end
-  pub offset-past : m ≤ i → offsetAt (coeffs m c) i ≡ +0
-  offset-past h = ap standsAt (List·getD-eq-default (coeffs m c) noCoeff (omega (arith, length-records triple triple-lawful m c)))
+pub offset-of : (m : ℕ) (c : List Float) (i : ℕ) → i < m → offsetAt (coeffs m c) i ≡ recordAt three c i .0
+unfolding recordAt
+offset-of m c i h = ap standsAt (record-at triple triple-lawful m c i noCoeff h)
 
 -- the last record
 pub last-record : (m : ℕ) (col : List Float) → 0 < m → lastCoeff (coeffs m col) ≡ recordAt triple col (m - 1)
@@ -40,15 +34,13 @@ last-record m col h =
     ap (λ (k : ℕ). getD (coeffs m col) (k - 1) noCoeff) (length-records triple triple-lawful m col)
     ∙ record-at triple triple-lawful m col (m - 1) noCoeff (omega arith)
 
-module _ (os : List Float) (ns : List ℕ) where
-  -- ---- each count is an entry of a column of u32
-  module _ (known : (k : ℕ) → Fits w32 (getD ns k 0)) (i : ℕ) where
-    pub counts-small : (gradeCount (pointAt os ns i) < 2 ^ 32) × (curveCount (pointAt os ns i) < 2 ^ 32) × (powerCount (pointAt os ns i) < 2 ^ 32)
-    counts-small = rw (four-entries ns i) (known (4 * i) .fits, known (4 * i + 1) .fits, known (4 * i + 2) .fits)
-
-    pub count-of-small : (curves : Bool) → countOf curves (pointAt os ns i) < 2 ^ 32
-    count-of-small true = counts-small .1
-    count-of-small false = counts-small .0
+-- ---- each count is an entry of a column of u32
+pub counts-small :
+    (os : List Float) (ns : List ℕ)
+    → ((k : ℕ) → Fits w32 (getD ns k 0))
+    → (i : ℕ)
+    → (gradeCount (pointAt os ns i) < 2 ^ 32) × (curveCount (pointAt os ns i) < 2 ^ 32) × (powerCount (pointAt os ns i) < 2 ^ 32)
+counts-small os ns known i = rw (four-entries ns i) (known (4 * i) .fits, known (4 * i + 1) .fits, known (4 * i + 2) .fits)
 
 -- ---- the sum of a count
 module _ (count : LinkPoint → ℕ) (os : List Float) (ns : List ℕ) (n : ℕ) where
@@ -79,16 +71,11 @@ module _ (count : LinkPoint → ℕ) (os : List Float) (ns : List ℕ) (n : ℕ)
     pub total-small : total count (linkPoints n os ns) ≤ n * 2 ^ 32
     total-small = omega (arith, ap (total count) (links-all os ns n), left-small n 0 (omega arith))
 
+    pub counted-small : (i s : ℕ) → n ≤ 1025 → Counted i s → s < 2 ^ 43
+    counted-small i s room sum = omega (arith, total-small, sum)
+
     pub counted-fits : (i s : ℕ) {p : LinkPoint} → n ≤ 1025 → i < n → p ≡ pointAt os ns i → Counted i s → Fits w64 (s + count p)
     counted-fits i s room h e sum = record { fits = omega (arith, total-small, counted-more i s h e sum) }
-
--- the sums of a path's link points
-pub sums-small : (os : List Float) (ns : List ℕ) (n : ℕ) {q : LinkPoint} → ((k : ℕ) → Fits w32 (getD ns k 0)) → n ≤ 1025 → q ≡ totals (linkPoints n os ns) → (gradeCount q < 2 ^ 43) × (curveCount q < 2 ^ 43)
-unfolding totals
-sums-small os ns n known room e = (
-  omega (arith, ap gradeCount e, total-small gradeCount os ns n (λ i. counts-small os ns known i .0)),
-  omega (arith, ap curveCount e, total-small curveCount os ns n (λ i. counts-small os ns known i .1)),
-)
 
 -- ---- the sum of a count over a range
 module _ (count : LinkPoint → ℕ) (at : ℕ → LinkPoint) (i end : ℕ) where
@@ -141,14 +128,13 @@ count-of-totals false ps = refl
 
 -- ---- each point's first record, record `at` for point i, at its offset
 module _ (count : LinkPoint → ℕ) (gs : List PathResCoeff) (os : List Float) (ns : List ℕ) (n i at : ℕ) where
-  module _ {p : LinkPoint} (h : i < n) (e : p ≡ pointAt os ns i) where
-    pub first-pass : standsThere gs at (offsetOf p) ≡ true → firstAtOffset count at (linksFrom os ns n i) gs ≡ firstAtOffset count (at + count p) (linksFrom os ns n (i + 1)) gs
-    unfolding firstAtOffset
-    first-pass t = rw (links-next os ns n i h e, t)
-
-    pub first-fail : standsThere gs at (offsetOf p) ≡ false → firstAtOffset count at (linksFrom os ns n i) gs ≡ false
-    unfolding firstAtOffset
-    first-fail t = rw (links-next os ns n i h e, t)
+  pub first-more :
+      {p : LinkPoint}
+      → i < n
+      → p ≡ pointAt os ns i
+      → firstAtOffset count at (linksFrom os ns n i) gs ≡ (standsThere gs at (offsetOf p) && firstAtOffset count (at + count p) (linksFrom os ns n (i + 1)) gs)
+  unfolding firstAtOffset
+  first-more h e = rw (links-next os ns n i h e)
 
   pub first-end : n ≤ i → firstAtOffset count at (linksFrom os ns n i) gs ≡ true
   unfolding firstAtOffset

@@ -2,6 +2,7 @@
 pub mod Clauses
 pub mod Counts
 pub mod InTurn
+pub mod Lead
 pub mod LinkPoints
 pub mod Numbers
 pub mod Ordered

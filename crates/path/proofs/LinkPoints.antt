@@ -6,9 +6,11 @@ use mathlib.Core.Path.{_≡_, refl, sym, ap, ap₂, _∙_}
 use mathlib.Core.List.{List, [], _∷_, _++_, map}
 use lib.ListN.{length, getD, drop}
 use lib.Seq.{getD-drop, drop-drop}
-use lib.Ieee.{Float}
+use lib.Ieee.{Float, nan}
 use Rattle.ieee.specs.Number.{+0}
 use Rattle.column.specs.Records.{recordAt, flat, four}
+use Rattle.column.proofs.Entry.{four-entries}
+use Rattle.column.proofs.Filling.{getD-within}
 use Rattle.path.specs.declared.link_point.LinkPoint.{LinkPoint}
 use Rattle.path.specs.Records.{linkPoint, offsetOf, fourOf, pointAt, linkPoints, noLinkPoint, linkPointAt, endPoint}
 
@@ -53,6 +55,10 @@ module _ (os : List Float) (ns : List ℕ) where
   links-next n i h e = links-more n i h ∙ ap (λ (q : LinkPoint). q ∷ linksFrom n (i + 1)) (sym e)
 
 -- ---- single points
+-- by its entries
+pub point-entries : (os : List Float) (ns : List ℕ) (i : ℕ) → i < length os → linkPoint (getD os i nan) (getD ns (4 * i) 0) (getD ns (4 * i + 1) 0) (getD ns (4 * i + 2) 0) (getD ns (4 * i + 3) 0) ≡ pointAt os ns i
+point-entries os ns i h = rw (four-entries ns i, getD-within os i nan +0 h)
+
 point-next : (os : List Float) (ns : List ℕ) (i : ℕ) → pointAt (drop 1 os) (drop 4 ns) i ≡ pointAt os ns (suc i)
 unfolding recordAt
 point-next os ns i =

@@ -1,9 +1,9 @@
--- Question 2's passes over link points and speed points: one record more, the first that fails, and none left.
+-- Question 2's passes over link points and speed points: `ok` is the answer for the records before i, and the records from i on are left.
 use Prim.Native.Nat.{ℕ, suc, _+_, _-_, _≤_, _<_}
 use native.Mathlib.Numerals.{add-one}
 use native.Mathlib.Omega.{arith}
 use mathlib.Core.Path.{_≡_, sym, ap, ap₂, _∙_}
-use mathlib.Core.Bool.{true, false}
+use mathlib.Core.Bool.{Bool, true, false, _&&_, and-true, and-assoc}
 use mathlib.Core.List.{List, _∷_}
 use lib.Dec.{eqb}
 use lib.ListN.{length, drop, getD, drop-of-length-le}
@@ -12,54 +12,47 @@ use borrow.Author.Tests.{eq-eqb, ne-eqb}
 use lib.Ieee as Ieee
 use lib.Ieee.{Float}
 use Rattle.ieee.specs.Number.{+0}
-use Rattle.column.specs.Records.{recordAt, two, records}
+use Rattle.column.specs.Records.{recordAt, two}
 use Rattle.column.proofs.Bridge.{record-at}
 use Rattle.speed.specs.Points.{nowhere}
 use Rattle.speed.specs.Column.{pair, points}
 use Rattle.speed.proofs.Held.{pair-lawful, length-points}
 use Rattle.link.specs.Lists.{every}
+use Rattle.path.specs.declared.link_point.LinkPoint.{LinkPoint}
 use Rattle.path.specs.Records.{numberOf, pointAt, linkPoints, noLinkPoint, linkPointAt}
-use Rattle.path.specs.Sound.{riseFrom, offsetsRise, allNumbered, numbersReal, neverFall, sortedFrom}
-use Rattle.path.proofs.LinkPoints.{length-links, linksFrom, links-more, links-none, link-at}
+use Rattle.path.specs.Sound.{riseFrom, offsetsRise, numbered, allNumbered, numbersReal, neverFall, sortedFrom}
+use Rattle.path.proofs.LinkPoints.{length-links, linksFrom, links-next, links-more, links-none, link-at}
 
 module _ (os : List Float) (ns : List ℕ) (n : ℕ) where
   -- ---- the offsets rise
-  pub rise-none : n ≡ 0 → offsetsRise (linkPoints n os ns) ≡ true
-  unfolding offsetsRise linkPoints
-  rise-none e = ap (λ (k : ℕ). offsetsRise (linkPoints k os ns)) e
+  abbrev pub risen : Bool → ℕ → Bool
+  risen ok i = ok && riseFrom (getD os (i - 1) +0) (linksFrom os ns n i)
 
-  pub rise-first : 0 < n → offsetsRise (linkPoints n os ns) ≡ riseFrom (getD os 0 +0) (linksFrom os ns n 1)
+  pub rise-first : 0 < n → offsetsRise (linkPoints n os ns) ≡ risen true 1
   unfolding offsetsRise linkPoints
   rise-first h =
       let e : n ≡ suc (n - 1) = omega arith in
       ap (λ (k : ℕ). offsetsRise (linkPoints k os ns)) e
 
-  module _ (o : Float) (i : ℕ) where
-    pub rise-pass : i < n → Ieee.lt o (getD os i +0) ≡ true → riseFrom o (linksFrom os ns n i) ≡ riseFrom (getD os i +0) (linksFrom os ns n (i + 1))
+  module _ (ok : Bool) (i : ℕ) where
+    pub rise-more : {a b : Float} → i < n → a ≡ getD os (i - 1) +0 → b ≡ getD os i +0 → risen ok i ≡ risen (ok && Ieee.lt a b) (i + 1)
     unfolding riseFrom
-    rise-pass h t = rw (links-more os ns n i h, t)
+    rise-more h e f =
+        let back : i + 1 - 1 ≡ i = omega arith in
+        rw (links-more os ns n i h, e, f, back) (sym (and-assoc ok _ _))
 
-    pub rise-fail : i < n → Ieee.lt o (getD os i +0) ≡ false → riseFrom o (linksFrom os ns n i) ≡ false
+    pub rise-end : n ≤ i → risen ok i ≡ ok
     unfolding riseFrom
-    rise-fail h t = rw (links-more os ns n i h, t)
+    rise-end h = rw (links-none os ns n i h) (and-true ok)
 
-    pub rise-end : n ≤ i → riseFrom o (linksFrom os ns n i) ≡ true
-    unfolding riseFrom
-    rise-end h = rw (links-none os ns n i h)
-
-  -- ---- every point has a number
-  module _ (i : ℕ) where
-    pub number-pass : i < n → (numberOf (pointAt os ns i) ≡ 0 → ⊥) → allNumbered (linksFrom os ns n i) ≡ allNumbered (linksFrom os ns n (i + 1))
+    -- ---- every point has a number
+    pub number-more : {p : LinkPoint} → i < n → p ≡ pointAt os ns i → (ok && allNumbered (linksFrom os ns n i)) ≡ ((ok && numbered p) && allNumbered (linksFrom os ns n (i + 1)))
     unfolding every
-    number-pass h t = rw (links-more os ns n i h, ne-eqb (numberOf (pointAt os ns i)) 0 t)
+    number-more h e = rw (links-next os ns n i h e) (sym (and-assoc ok _ _))
 
-    pub number-fail : i < n → numberOf (pointAt os ns i) ≡ 0 → allNumbered (linksFrom os ns n i) ≡ false
+    pub number-end : n ≤ i → (ok && allNumbered (linksFrom os ns n i)) ≡ ok
     unfolding every
-    number-fail h t = rw (links-more os ns n i h, eq-eqb (numberOf (pointAt os ns i)) 0 t)
-
-    pub number-end : n ≤ i → allNumbered (linksFrom os ns n i) ≡ true
-    unfolding every
-    number-end h = rw (links-none os ns n i h)
+    number-end h = rw (links-none os ns n i h) (and-true ok)
 
   -- ---- the numbers are real
   point-from-end : (k : ℕ) → 0 < k → k ≤ n → linkPointAt (linkPoints n os ns) (length (linkPoints n os ns) - k) ≡ pointAt os ns (n - k)
@@ -85,30 +78,22 @@ module _ (c : List Float) (n : ℕ) where
       drop-cons (points n c) i nowhere (omega (arith, length-points n c))
       ∙ ap₂ _∷_ (record-at pair pair-lawful n c i nowhere h) (ap (λ (k : ℕ). drop k (points n c)) (sym (add-one i)))
 
-  module _ (o : Float) where
-    pub sorted-none : n ≡ 0 → sortedFrom o (points n c) ≡ true
-    unfolding sortedFrom records
-    sorted-none e = ap (λ (k : ℕ). sortedFrom o (points k c)) e
+  abbrev pub sorted : Bool → ℕ → Bool
+  sorted ok i = ok && neverFall (recordAt two c (i - 1) .0) (drop i (points n c))
 
-    pub sorted-fail : 0 < n → Ieee.eq (recordAt two c 0 .0) o ≡ false → sortedFrom o (points n c) ≡ false
-    unfolding sortedFrom recordAt
-    sorted-fail h t = ap (sortedFrom o) (points-more 0 h) ∙ rw t
+  pub sorted-first : (o : Float) {a : Float} → 0 < n → a ≡ recordAt two c 0 .0 → sortedFrom o (points n c) ≡ sorted (Ieee.eq a o) 1
+  unfolding sortedFrom recordAt
+  sorted-first o h e = ap (sortedFrom o) (points-more 0 h) ∙ rw e
 
-    pub sorted-first : 0 < n → Ieee.eq (recordAt two c 0 .0) o ≡ true → sortedFrom o (points n c) ≡ neverFall (recordAt two c 0 .0) (drop 1 (points n c))
-    unfolding sortedFrom recordAt
-    sorted-first h t = ap (sortedFrom o) (points-more 0 h) ∙ rw t
+  module _ (ok : Bool) (i : ℕ) where
+    pub sorted-more : {a b : Float} → i < n → a ≡ recordAt two c (i - 1) .0 → b ≡ recordAt two c i .0 → sorted ok i ≡ sorted (ok && Ieee.le a b) (i + 1)
+    unfolding neverFall recordAt
+    sorted-more h e f =
+        let back : i + 1 - 1 ≡ i = omega arith in
+        rw (points-more i h, e, f, back) (sym (and-assoc ok _ _))
 
-    module _ (i : ℕ) where
-      pub fall-pass : i < n → Ieee.le o (recordAt two c i .0) ≡ true → neverFall o (drop i (points n c)) ≡ neverFall (recordAt two c i .0) (drop (i + 1) (points n c))
-      unfolding neverFall recordAt
-      fall-pass h t = ap (neverFall o) (points-more i h) ∙ rw t
-
-      pub fall-fail : i < n → Ieee.le o (recordAt two c i .0) ≡ false → neverFall o (drop i (points n c)) ≡ false
-      unfolding neverFall recordAt
-      fall-fail h t = ap (neverFall o) (points-more i h) ∙ rw t
-
-      pub fall-end : n ≤ i → neverFall o (drop i (points n c)) ≡ true
-      unfolding neverFall
-      fall-end h =
-          let g : length (points n c) ≤ i = omega (arith, length-points n c) in
-          ap (neverFall o) (drop-of-length-le (points n c) g)
+    pub sorted-end : n ≤ i → sorted ok i ≡ ok
+    unfolding neverFall
+    sorted-end h =
+        let g : length (points n c) ≤ i = omega (arith, length-points n c) in
+        rw (drop-of-length-le (points n c) g) (and-true ok)

@@ -1,7 +1,8 @@
 // Link points in their two columns: the offset, and four numbers (grade, curve and power count, link number).
 use si::Length;
 ghost use mathlib.Core.Path.{_≡_};
-ghost use Prim.Native.Nat.{_≤_};
+ghost use Prim.Native.Nat.{_+_, _*_, _≤_, _<_};
+ghost use lib.ListN.{length};
 ghost use Rattle.path.specs.Records.{linkPoints, pointAt};
 ghost use Rattle.path.specs.Sound.{totals, countOf};
 
@@ -25,6 +26,22 @@ pub fn link_point_at(offsets: &[f64], numbers: &[u32], i: usize) -> LinkPoint
         curve_count: q.1 as usize,
         cat_power_count: q.2 as usize,
         link_idx: q.3,
+    }
+}
+
+// Link point i of columns that have it.
+pub fn link_point_within(offsets: &[f64], numbers: &[u32], i: usize) -> LinkPoint
+    requires { ⌜ i < length (now offsets) ⌝ }
+    requires { ⌜ 4 * i + 3 < length (now numbers) ⌝ }
+    ensures { λ r. ⌜ r ≡ pointAt (now (offsets .entry)) (now (numbers .entry)) i ⌝ }
+{
+    let k = 4 * i;
+    LinkPoint {
+        offset: Length(offsets[i]),
+        grade_count: numbers[k] as usize,
+        curve_count: numbers[k + 1] as usize,
+        cat_power_count: numbers[k + 2] as usize,
+        link_idx: numbers[k + 3],
     }
 }
 

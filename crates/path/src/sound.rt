@@ -1,14 +1,18 @@
 // Question 2 of a path: it is sound.
-use crate::link_point::LinkPoint;
-use crate::link_point::add_counts;
 use crate::link_point::link_point_at;
+use crate::link_point::link_point_within;
 use crate::path_tpc::PathTpc;
+use lookup::path_res_coeff::offset_at;
 use si::Length;
 ghost use mathlib.Core.Path.{_≡_};
-ghost use Prim.Native.Nat.{_≤_, _<_, _^_};
+ghost use mathlib.Core.Bool.{true, false, _&&_};
+ghost use Prim.Native.Nat.{_*_, _≤_, _<_, _^_};
+ghost use lib.ListN.{length, getD};
+ghost use Rattle.ieee.specs.Number.{+0};
+ghost use Rattle.column.specs.Records.{recordAt, two};
 ghost use Rattle.speed.specs.Column.{points};
 ghost use Rattle.lookup.specs.Coeff.{coeffs};
-ghost use Rattle.path.specs.Records.{columns, linkPoints, pathOf, withinAll};
+ghost use Rattle.path.specs.Records.{columns, linkPoint, linkPoints, pathOf, withinAll};
 ghost use Rattle.path.specs.Sound as spec;
 
 fn one_of_each(p: PathTpc) -> bool
@@ -52,54 +56,60 @@ fn spare_of(finished: bool) -> usize
     if finished { 2 } else { 1 }
 }
 
-// The counts of the link points, added up as sum, against those of the path.
-fn counts_add_up(p: PathTpc, sum: LinkPoint) -> bool
-    requires { ⌜ sum .«grade_count» < 2 ^ 43 ⌝ }
-    requires { ⌜ sum .«curve_count» < 2 ^ 43 ⌝ }
-    ensures { λ r. ⌜ r ≡ spec.addUp p sum ⌝ }
+// The sums of the link points' counts against the counts of the path.
+fn counts_add_up(p: PathTpc, grades: usize, curves: usize, powers: usize) -> bool
+    requires { ⌜ grades < 2 ^ 43 ⌝ }
+    requires { ⌜ curves < 2 ^ 43 ⌝ }
+    ensures { λ r. ⌜ r ≡ spec.addUp p (linkPoint +0 grades curves powers 0) ⌝ }
 {
     let spare = spare_of(p.is_finished);
-    (sum.grade_count + spare == p.grade_count)
-        & ((sum.curve_count + spare == p.curve_count) & (sum.cat_power_count == p.power_count))
+    (grades + spare == p.grade_count)
+        & ((curves + spare == p.curve_count) & (powers == p.power_count))
 }
 
-// Whether the link offsets rise strictly.
+// Entry i of a column that has it.
+fn entry(col: &[f64], i: usize) -> f64
+    requires { ⌜ i < length (now col) ⌝ }
+    ensures { λ r. ⌜ r ≡ getD (now (col .entry)) i +0 ⌝ }
+{
+    col[i]
+}
+
+// Whether the link offsets rise strictly. This loop and the next two have no early exit, so that they compile to vector code.
 fn offsets_rise(offsets: &[f64], numbers: &[u32], n: usize) -> bool
+    requires { ⌜ 0 < n ⌝ }
+    requires { ⌜ n ≤ length (now offsets) ⌝ }
     ensures { λ r. ⌜ r ≡ spec.offsetsRise (linkPoints n (now (offsets .entry)) (now (numbers .entry))) ⌝ }
 {
-    if n == 0 {
-        return true;
-    }
-    let mut last = column::floats::get(offsets, 0);
+    let mut ok = true;
     let mut i = 1;
     while i < n {
-        let o = column::floats::get(offsets, i);
-        if !(last < o) {
-            return false;
-        }
-        last = o;
+        ok = ok & (entry(offsets, i - 1) < entry(offsets, i));
         i += 1;
     }
-    true
+    ok
 }
 
 // Whether every link point has a number.
 fn all_numbered(offsets: &[f64], numbers: &[u32], n: usize) -> bool
+    requires { ⌜ n ≤ length (now offsets) ⌝ }
+    requires { ⌜ 4 * n ≤ length (now numbers) ⌝ }
     ensures { λ r. ⌜ r ≡ spec.allNumbered (linkPoints n (now (offsets .entry)) (now (numbers .entry))) ⌝ }
 {
+    let mut ok = true;
     let mut i = 0;
     while i < n {
-        if link_point_at(offsets, numbers, i).link_idx == 0 {
-            return false;
-        }
+        ok = ok & (link_point_within(offsets, numbers, i).link_idx != 0);
         i += 1;
     }
-    true
+    ok
 }
 
 // Numbers that are real, the end point's the last link's; one 0 on a path without links.
 fn numbers_real(offsets: &[f64], numbers: &[u32], n: usize) -> bool
     requires { ⌜ 0 < n ⌝ }
+    requires { ⌜ n ≤ length (now offsets) ⌝ }
+    requires { ⌜ 4 * n ≤ length (now numbers) ⌝ }
     ensures { λ r. ⌜ r ≡ spec.numbersReal (linkPoints n (now (offsets .entry)) (now (numbers .entry))) ⌝ }
 {
     let end = link_point_at(offsets, numbers, n - 1).link_idx;
@@ -112,66 +122,64 @@ fn numbers_real(offsets: &[f64], numbers: &[u32], n: usize) -> bool
     end == link_point_at(offsets, numbers, n - 2).link_idx
 }
 
+// The offset of speed point i of a column that has it.
+fn speed_offset(speeds: &[f64], i: usize) -> f64
+    requires { ⌜ 2 * i < length (now speeds) ⌝ }
+    ensures { λ r. ⌜ r ≡ recordAt two (now (speeds .entry)) i .0 ⌝ }
+{
+    entry(speeds, 2 * i)
+}
+
 // Whether n speed points are sorted from o on.
 fn sorted_from(speeds: &[f64], n: usize, o: Length) -> bool
+    requires { ⌜ 0 < n ⌝ }
+    requires { ⌜ 2 * n ≤ length (now speeds) ⌝ }
     ensures { λ r. ⌜ r ≡ spec.sortedFrom (o .0) (points n (now (speeds .entry))) ⌝ }
 {
-    if n == 0 {
-        return true;
-    }
-    let mut last = column::floats::two_at(speeds, 0).0;
-    if !(last == o.0) {
-        return false;
-    }
+    let mut ok = speed_offset(speeds, 0) == o.0;
     let mut i = 1;
     while i < n {
-        let x = column::floats::two_at(speeds, i).0;
-        if !(last <= x) {
-            return false;
-        }
-        last = x;
+        ok = ok & (speed_offset(speeds, i - 1) <= speed_offset(speeds, i));
         i += 1;
     }
-    true
+    ok
 }
 
-// Whether the first record of each link point stands at its offset: of the m grades of col, or of the m curves.
-fn first_at_offset(
-    offsets: &[f64],
-    numbers: &[u32],
-    n: usize,
-    col: &[f64],
-    m: usize,
-    curves: bool,
-) -> bool
-    requires { ⌜ n ≤ 1025 ⌝ }
-    ensures { λ r. ⌜ r ≡ spec.firstAtOffset (spec.countOf curves) 0 (linkPoints n (now (offsets .entry)) (now (numbers .entry))) (coeffs m (now (col .entry))) ⌝ }
+// Whether the link points' counts add up, and each link point's first grade and curve stands at its offset. A point whose first record
+// lies past the last one counts too many.
+fn counts_lead(p: PathTpc, offsets: &[f64], numbers: &[u32], grades: &[f64], curves: &[f64]) -> bool
+    requires { ⌜ p .«link_count» ≤ 1025 ⌝ }
+    requires { ⌜ p .«link_count» ≤ length (now offsets) ⌝ }
+    requires { ⌜ 4 * p .«link_count» ≤ length (now numbers) ⌝ }
+    requires { ⌜ 3 * p .«grade_count» ≤ length (now grades) ⌝ }
+    requires { ⌜ 3 * p .«curve_count» ≤ length (now curves) ⌝ }
+    ensures { λ r. ⌜ r ≡ (spec.addUp p (spec.totals (linkPoints (p .«link_count») (now (offsets .entry)) (now (numbers .entry)))) && (spec.firstAtOffset (spec.countOf false) 0 (linkPoints (p .«link_count») (now (offsets .entry)) (now (numbers .entry))) (coeffs (p .«grade_count») (now (grades .entry))) && spec.firstAtOffset (spec.countOf true) 0 (linkPoints (p .«link_count») (now (offsets .entry)) (now (numbers .entry))) (coeffs (p .«curve_count») (now (curves .entry))))) ⌝ }
 {
-    let mut at = 0;
+    let n = p.link_count;
+    let grade_count = p.grade_count;
+    let curve_count = p.curve_count;
+    let mut g = 0;
+    let mut k = 0;
+    let mut w = 0;
+    let mut ok = true;
     let mut i = 0;
     while i < n {
-        let p = link_point_at(offsets, numbers, i);
-        if !stands_at(col, m, at, p.offset) {
+        if grade_count <= g {
             return false;
         }
-        if curves {
-            at += p.curve_count;
-        } else {
-            at += p.grade_count;
+        if curve_count <= k {
+            return false;
         }
+        let q = link_point_within(offsets, numbers, i);
+        let slope = offset_at(grades, grade_count, g);
+        let bend = offset_at(curves, curve_count, k);
+        ok = ok & ((slope.0 == q.offset.0) & (bend.0 == q.offset.0));
+        g += q.grade_count;
+        k += q.curve_count;
+        w += q.cat_power_count;
         i += 1;
     }
-    true
-}
-
-// Whether record i of m stands at o.
-fn stands_at(col: &[f64], m: usize, i: usize, o: Length) -> bool
-    ensures { λ r. ⌜ r ≡ spec.standsThere (coeffs m (now (col .entry))) i (o .0) ⌝ }
-{
-    if i < m {
-        return column::floats::three_at(col, i).0 == o.0;
-    }
-    0.0 == o.0
+    counts_add_up(p, g, k, w) & ok
 }
 
 // Whether the last of m records stands at +infinity.
@@ -204,20 +212,21 @@ fn sound_path(
     powers: &[f64],
     districts: &[u32],
 ) -> bool
-    requires { ⌜ 0 < p .«link_count» ⌝ }
-    requires { ⌜ p .«link_count» ≤ 1025 ⌝ }
+    requires { ⌜ spec.oneOfEach p ≡ true ⌝ }
+    requires { ⌜ spec.withinBounds p (columns (now offsets) (now numbers) (now grades) (now curves) (now speeds) (now powers) (now districts)) ≡ true ⌝ }
     ensures { λ r. ⌜ r ≡ spec.soundPath (pathOf p (columns (now (offsets .entry)) (now (numbers .entry)) (now (grades .entry)) (now (curves .entry)) (now (speeds .entry)) (now (powers .entry)) (now (districts .entry)))) ⌝ }
 {
     let n = p.link_count;
-    let sum = add_counts(offsets, numbers, n);
-    let first = link_point_at(offsets, numbers, 0).offset;
     let closed = closes(grades, p.grade_count) & closes(curves, p.curve_count);
     let links = end_counts_zero(offsets, numbers, n)
         & (offsets_rise(offsets, numbers, n) & numbers_real(offsets, numbers, n));
-    let sorted = sorted_from(speeds, p.speed_count, first);
-    let slopes = first_at_offset(offsets, numbers, n, grades, p.grade_count, false);
-    let bends = first_at_offset(offsets, numbers, n, curves, p.curve_count, true);
-    counts_add_up(p, sum) & ((!p.is_finished | closed) & (links & (sorted & (slopes & bends))))
+    let sorted = sorted_from(
+        speeds,
+        p.speed_count,
+        link_point_at(offsets, numbers, 0).offset,
+    );
+    let lead = counts_lead(p, offsets, numbers, grades, curves);
+    lead & ((!p.is_finished | closed) & (links & sorted))
 }
 
 // Question 2 of a path.

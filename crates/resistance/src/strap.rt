@@ -175,7 +175,7 @@ fn moved_unk(strap: Strap, col: &[f64], n: usize, state: TrainState) -> Moved
 }
 
 // The two indices after the searches of a direction.
-fn moved_by(strap: Strap, col: &[f64], n: usize, state: TrainState, dir: Dir) -> Moved
+pub fn moved_by(strap: Strap, col: &[f64], n: usize, state: TrainState, dir: Dir) -> Moved
     requires { ⌜ 0 < n ⌝ }
     requires { ⌜ 3 * n ≤ length (now col) ⌝ }
     ensures { λ r. ⌜ r ≡ spec.moved dir strap state (coeffs n (now (col .entry))) ⌝ }
@@ -188,7 +188,7 @@ fn moved_by(strap: Strap, col: &[f64], n: usize, state: TrainState, dir: Dir) ->
 }
 
 // The strap's coefficient: that of the one record, or (front value - back value) / length.
-fn calc_res_strap(one: bool, strap: Strap, col: &[f64], n: usize, state: TrainState) -> Ratio
+pub fn calc_res_strap(one: bool, strap: Strap, col: &[f64], n: usize, state: TrainState) -> Ratio
     requires { ⌜ strap .«idx_front» < n ⌝ }
     requires { ⌜ strap .«idx_back» < n ⌝ }
     requires { ⌜ 3 * n ≤ length (now col) ⌝ }

@@ -1,6 +1,7 @@
 // A walk of a strap over many positions of a train, in a list that is known to be sound: no question is asked twice.
 use crate::strap::Strap;
-use crate::strap::calc_res_known;
+use crate::strap::calc_res_strap;
+use crate::strap::moved_by;
 use lookup::lin_search_hint::Dir;
 use path::answer::asked;
 use path::path_tpc::Answer;
@@ -38,6 +39,18 @@ fn further(s: TrainState, step: Length) -> TrainState
     }
 }
 
+// Where a walk ends, for whatever reason.
+fn ended(answer: Answer, strap: Strap, force: f64, count: usize) -> Walked
+    ensures { λ r. ⌜ r ≡ spec.walkedTo answer strap force count ⌝ }
+{
+    Walked {
+        answer,
+        strap,
+        res: Force(force),
+        count,
+    }
+}
+
 // The resistance at count positions, the first at state and each a step further; the first refusal ends the walk.
 pub fn walk_known(
     strap: Strap,
@@ -57,25 +70,21 @@ pub fn walk_known(
     let mut force = 0.0;
     let mut i = 0;
     while i < count {
-        let r = calc_res_known(t, col, n, s, dir);
-        let answer = r.answer;
+        let m = moved_by(t, col, n, s, dir);
+        let answer = m.answer;
         if answer.number != 0 {
-            return Walked {
-                answer,
-                strap: t,
-                res: Force(force),
-                count: i,
-            };
+            return ended(answer, t, force, i);
         }
-        t = r.strap;
-        force = r.res.0;
+        let after = m.strap;
+        let coeff = calc_res_strap(m.one, after, col, n, s);
+        let res = coeff.0 * s.weight_static.0;
+        if !ieee::is_finite(res) {
+            return ended(asked(8, false), t, force, i);
+        }
+        t = after;
+        force = res;
         s = further(s, step);
         i += 1;
     }
-    Walked {
-        answer: asked(0, true),
-        strap: t,
-        res: Force(force),
-        count: i,
-    }
+    ended(asked(0, true), t, force, i)
 }

@@ -82,6 +82,11 @@ pub fn strap_calc_res_known(strap: Strap, col: &[f64], n: usize, state: TrainSta
     assert!(n > 0 && n <= col.len() / 3);
     unsafe { mochaspit_strap_calc_res_known(strap, col.as_ptr(), col.len(), n, state, dir) }
 }
+/// The same over many positions.
+pub fn strap_walk_known(strap: Strap, col: &[f64], n: usize, state: TrainState, dir: u32, step: f64, count: usize) -> Walked {
+    assert!(n > 0 && n <= col.len() / 3);
+    unsafe { mochaspit_strap_walk_known(strap, col.as_ptr(), col.len(), n, state, dir, step, count) }
+}
 
 /// The words of a path's record.
 pub fn path_words(p: &PathTpc) -> Vec<u64> {

@@ -15,14 +15,14 @@ spare-of-requires : tie.Need-spare-of-requires
 spare-of-requires c κs = search needs
 
 add-result : tie.Need-add-result
-add-result c = omega (arith, spare-small (c .before .before .args .p .«is_finished»))
+add-result c = omega (arith, spare-small (c .before .args .p .«is_finished»))
 
 add-result-2 : tie.Need-add-result-2
-add-result-2 c = omega (arith, spare-small (c .before .before .before .before .args .p .«is_finished»))
+add-result-2 c = omega (arith, spare-small (c .before .before .args .p .«is_finished»))
 
 returns : tie.Need-returns
 unfolding addUp
-returns c = rw (c .before .before .before .before .before .before .spare-of .ensures)
+returns c = rw (c .before .before .before .spare-of .ensures)
 
 pub counts-add-up-spec : {M : Type 1} → statement M
 counts-add-up-spec = tie.close (tie.spec spare-of-requires add-result add-result-2 returns)

@@ -21,7 +21,7 @@ returns c =
     ap (λ (p : LinkPoint). eqb (numberOf p) 0) (c .before .link-point-at .ensures) ∙ sym (real-one (a .offsets .now) (a .numbers .now) (a .n) (c .if1 .taken))
 
 all-numbered-requires : tie.Need-all-numbered-requires
-all-numbered-requires c κs = tt
+all-numbered-requires c κs = (omega arith, omega arith)
 
 returns-2 : tie.Need-returns-2
 returns-2 c =

@@ -1,50 +1,32 @@
--- `offsets_rise`: from link point i on, after the offset last, the answer is that from the first on.
-use Prim.Native.Nat.{_-_, _≤_}
-use mathlib.Core.Path.{_≡_, sym, ap, _∙_}
-use mathlib.Core.Bool.{true, false}
+-- `offsets_rise`: the answer for the link points before i, and that for those from i on, are the answer.
+use Prim.Native.Nat.{_-_, _≤_, _<_}
+use mathlib.Core.Path.{_≡_, sym, _∙_}
 use native.Mathlib.Omega.{arith}
-use borrow.Author.Tests.{not-true, not-false}
-use lib.ListN.{getD}
-use lib.Ieee as Ieee
-use lib.Ieee.{Float}
-use Rattle.ieee.specs.Number.{+0}
 use Rattle.path.specs.Records.{linkPoints}
-use Rattle.path.specs.Sound.{riseFrom, offsetsRise}
-use Rattle.path.proofs.LinkPoints.{linksFrom}
-use Rattle.path.proofs.Ordered.{rise-none, rise-first, rise-pass, rise-fail, rise-end}
+use Rattle.path.specs.Sound.{offsetsRise}
+use Rattle.path.proofs.Ordered.{risen, rise-first, rise-more, rise-end}
 use Rattle.path.proofs.sound.offsets_rise.Statement.{statement}
 use Rattle.path.proofs.sound.offsets_rise.Tie as tie
 
 abbrev Inv-loop : tie.InvT-loop
-Inv-loop offsets numbers n last₀ i₀ last i = (i ≤ n) × (offsetsRise (linkPoints n offsets numbers) ≡ riseFrom last (linksFrom offsets numbers n i))
+Inv-loop offsets numbers n ok₀ i₀ ok i = (0 < i) × (i ≤ n) × (offsetsRise (linkPoints n offsets numbers) ≡ risen offsets numbers n ok i)
 
 abbrev μ-loop : tie.MeasureT-loop
-μ-loop offsets numbers n last₀ i₀ last i = n - i
-
-returns : tie.Need-returns Inv-loop μ-loop
-returns c =
-    let a = c .before .before .before .args in
-    sym (rise-none (a .offsets .now) (a .numbers .now) (a .n) (c .if1 .taken))
-
-get-requires : tie.Need-get-requires Inv-loop μ-loop
-get-requires c κs = tt
+μ-loop offsets numbers n ok₀ i₀ ok i = n - i
 
 loop-holds : tie.Need-loop-holds Inv-loop μ-loop
 loop-holds c =
-    let a = c .before .before .before .before .args in
-    (omega arith, rise-first (a .offsets .now) (a .numbers .now) (a .n) (omega arith) ∙ ap (λ (o : Float). riseFrom o (linksFrom (a .offsets .now) (a .numbers .now) (a .n) 1)) (sym (c .get .ensures)))
+    let a = c .before .before .args in
+    (omega arith, omega arith, rise-first (a .offsets .now) (a .numbers .now) (a .n) (omega arith))
 
-get-requires-2 : tie.Need-get-requires-2 Inv-loop μ-loop
-get-requires-2 c κs = tt
+sub-entry : tie.Need-sub-entry Inv-loop μ-loop
+sub-entry c = omega arith
 
-returns-2 : tie.Need-returns-2 Inv-loop μ-loop
-returns-2 c =
-    let a = c .before .before .before .before .before .before .before .before .args in
-    let os = a .offsets .now in
-    let last = c .before .before .before .loop .last in
-    let i = c .before .before .before .loop .i in
-    let ok : Ieee.lt last (getD os i +0) ≡ false = rw (← c .before .get2 .ensures) (not-true _ (c .if2 .taken)) in
-    sym (c .before .before .before .loop .inv .1 ∙ rise-fail os (a .numbers .now) (a .n) last i (omega arith) ok)
+entry-requires : tie.Need-entry-requires Inv-loop μ-loop
+entry-requires c κs = omega arith
+
+entry-requires-2 : tie.Need-entry-requires-2 Inv-loop μ-loop
+entry-requires-2 c κs = omega arith
 
 add-i : tie.Need-add-i Inv-loop μ-loop
 add-i c = omega arith
@@ -54,17 +36,15 @@ loop-less c = omega arith
 
 loop-again : tie.Need-loop-again Inv-loop μ-loop
 loop-again c =
-    let a = c .before .before .before .before .before .before .before .before .args in
-    let os = a .offsets .now in
-    let last = c .before .before .before .loop .last in
-    let i = c .before .before .before .loop .i in
-    let ok : Ieee.lt last (getD os i +0) ≡ true = rw (← c .before .get2 .ensures) (not-false _ (c .if2 .left)) in
-    (omega arith, rw (c .before .get2 .ensures) (c .before .before .before .loop .inv .1 ∙ rise-pass os (a .numbers .now) (a .n) last i (omega arith) ok))
-
-returns-3 : tie.Need-returns-3 Inv-loop μ-loop
-returns-3 c =
     let a = c .before .before .before .before .before .before .args in
-    sym (c .before .loop .inv .1 ∙ rise-end (a .offsets .now) (a .numbers .now) (a .n) (c .before .loop .last) (c .before .loop .i) (omega arith))
+    let l = c .before .before .before .loop in
+    (omega arith, omega arith, l .inv .2 ∙ rise-more (a .offsets .now) (a .numbers .now) (a .n) (l .ok) (l .i) (omega arith) (c .before .entry .ensures) (c .entry2 .ensures))
+
+returns : tie.Need-returns Inv-loop μ-loop
+returns c =
+    let a = c .before .before .before .before .args in
+    let l = c .before .loop in
+    sym (l .inv .2 ∙ rise-end (a .offsets .now) (a .numbers .now) (a .n) (l .ok) (l .i) (omega arith))
 
 pub offsets-rise-spec : {M : Type 1} → statement M
 offsets-rise-spec =
@@ -72,12 +52,11 @@ offsets-rise-spec =
     (tie.spec
     Inv-loop
     μ-loop
-    returns
-    get-requires
     loop-holds
-    get-requires-2
-    returns-2
+    sub-entry
+    entry-requires
+    entry-requires-2
     add-i
     loop-less
     loop-again
-    returns-3)
+    returns)

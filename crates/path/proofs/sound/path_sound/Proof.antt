@@ -2,7 +2,7 @@
 use borrow.Author.Tests.{not-true, not-false}
 use mathlib.Core.Path.{sym, _∙_}
 use Rattle.path.specs.Records.{columns}
-use Rattle.path.proofs.Clauses.{sound-none, sound-past, sound-more, some-link, bounds}
+use Rattle.path.proofs.Clauses.{sound-none, sound-past, sound-more}
 use Rattle.path.proofs.sound.path_sound.Statement.{statement}
 use Rattle.path.proofs.sound.path_sound.Tie as tie
 
@@ -25,10 +25,7 @@ returns-2 c =
     sym (sound-past (a .p) l (sym (c .before .before .before .one-of-each .ensures) ∙ not-false _ (c .before .before .if1 .left)) (sym (c .before .within-bounds .ensures) ∙ not-true _ (c .if2 .taken)))
 
 sound-path-requires : tie.Need-sound-path-requires
-sound-path-requires c κs =
-    let a = c .before .before .before .before .before .before .before .before .before .before .before .args in
-    let l = columns (a .offsets .now) (a .numbers .now) (a .grades .now) (a .curves .now) (a .speeds .now) (a .powers .now) (a .districts .now) in
-    (some-link (a .p) l (sym (c .before .before .before .one-of-each .ensures) ∙ not-false _ (c .before .before .if1 .left)), bounds (a .p) l (sym (c .before .within-bounds .ensures) ∙ not-false _ (c .if2 .left)) .0)
+sound-path-requires c κs = (sym (c .before .before .before .one-of-each .ensures) ∙ not-false _ (c .before .before .if1 .left), sym (c .before .within-bounds .ensures) ∙ not-false _ (c .if2 .left))
 
 returns-3 : tie.Need-returns-3
 returns-3 c =

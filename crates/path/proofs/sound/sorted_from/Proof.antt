@@ -1,67 +1,31 @@
--- `sorted_from`: from speed point i on, after the offset last, the answer is that from the second on, after the first.
-use Prim.Native.Nat.{_-_, _≤_}
-use mathlib.Core.Path.{_≡_, refl, sym, ap, _∙_}
-use mathlib.Core.Bool.{true, false}
+-- `sorted_from`: the answer for the speed points before i, and that for those from i on, are the answer.
+use Prim.Native.Nat.{_-_, _≤_, _<_}
+use mathlib.Core.Path.{_≡_, refl, sym, _∙_}
 use native.Mathlib.Omega.{arith}
-use borrow.Author.Tests.{not-true, not-false}
-use lib.ListN.{drop}
-use lib.Ieee as Ieee
-use Rattle.column.specs.declared.Two.{Two}
-use Rattle.column.specs.Records.{recordAt, two}
-use Rattle.speed.specs.Column.{points}
-use Rattle.path.specs.Sound.{neverFall, sortedFrom}
-use Rattle.path.proofs.Ordered.{sorted-none, sorted-fail, sorted-first, fall-pass, fall-fail, fall-end}
+use Rattle.path.proofs.Ordered.{sorted, sorted-first, sorted-more, sorted-end}
 use Rattle.path.proofs.sound.sorted_from.Statement.{statement}
 use Rattle.path.proofs.sound.sorted_from.Tie as tie
 
 abbrev Inv-loop : tie.InvT-loop
-Inv-loop speeds n last₀ i₀ last i = (i ≤ n) × (neverFall last₀ (drop 1 (points n speeds)) ≡ neverFall last (drop i (points n speeds)))
+Inv-loop speeds n ok₀ i₀ ok i = (0 < i) × (i ≤ n) × (sorted speeds n ok₀ i₀ ≡ sorted speeds n ok i)
 
 abbrev μ-loop : tie.MeasureT-loop
-μ-loop speeds n last₀ i₀ last i = n - i
+μ-loop speeds n ok₀ i₀ ok i = n - i
 
-returns : tie.Need-returns Inv-loop μ-loop
-returns c =
-    let a = c .before .before .args in
-    sym (sorted-none (a .speeds .now) (a .n) (a .o .0) (c .if1 .taken))
-
-two-at-requires : tie.Need-two-at-requires Inv-loop μ-loop
-two-at-requires c κs = tt
-
-returns-2 : tie.Need-returns-2 Inv-loop μ-loop
-returns-2 c =
-    let a = c .before .before .before .before .before .args in
-    let col = a .speeds .now in
-    let other : Ieee.eq (recordAt two col 0 .0) (a .o .0) ≡ false = rw (← c .before .before .two-at .ensures) (not-true _ (c .if2 .taken)) in
-    sym (sorted-fail col (a .n) (a .o .0) (omega arith) other)
+speed-offset-requires : tie.Need-speed-offset-requires Inv-loop μ-loop
+speed-offset-requires c κs = omega arith
 
 loop-holds : tie.Need-loop-holds Inv-loop μ-loop
-loop-holds c = (omega arith, refl)
+loop-holds c = (omega arith, omega arith, refl)
 
-two-at-requires-2 : tie.Need-two-at-requires-2 Inv-loop μ-loop
-two-at-requires-2 c κs = tt
+sub-speed-offset : tie.Need-sub-speed-offset Inv-loop μ-loop
+sub-speed-offset c = omega arith
 
--- the whole answer, at the loop's test
-so-far : (c : tie.At-loop Inv-loop μ-loop)
-    → let a = c .before .before .before .before .before .before .args in
-    sortedFrom (a .o .0) (points (a .n) (a .speeds .now)) ≡ neverFall (c .loop .last) (drop (c .loop .i) (points (a .n) (a .speeds .now)))
-so-far c =
-    let a = c .before .before .before .before .before .before .args in
-    let col = a .speeds .now in
-    let first = c .before .before .before .two-at in
-    let same : Ieee.eq (recordAt two col 0 .0) (a .o .0) ≡ true = rw (← first .ensures) (not-false _ (c .before .if2 .left)) in
-    sorted-first col (a .n) (a .o .0) (omega arith) same
-    ∙ ap (λ (r : Two). neverFall (r .0) (drop 1 (points (a .n) col))) (sym (first .ensures))
-    ∙ c .loop .inv .1
+speed-offset-requires-2 : tie.Need-speed-offset-requires-2 Inv-loop μ-loop
+speed-offset-requires-2 c κs = omega arith
 
-returns-3 : tie.Need-returns-3 Inv-loop μ-loop
-returns-3 c =
-    let a = c .before .before .before .before .before .before .before .before .before .args in
-    let col = a .speeds .now in
-    let last = c .before .before .before .loop .last in
-    let i = c .before .before .before .loop .i in
-    let falls : Ieee.le last (recordAt two col i .0) ≡ false = rw (← c .before .two-at2 .ensures) (not-true _ (c .if3 .taken)) in
-    sym (so-far (c .before .before .before) ∙ fall-fail col (a .n) last i (omega arith) falls)
+speed-offset-requires-3 : tie.Need-speed-offset-requires-3 Inv-loop μ-loop
+speed-offset-requires-3 c κs = omega arith
 
 add-i : tie.Need-add-i Inv-loop μ-loop
 add-i c = omega arith
@@ -71,17 +35,15 @@ loop-less c = omega arith
 
 loop-again : tie.Need-loop-again Inv-loop μ-loop
 loop-again c =
-    let a = c .before .before .before .before .before .before .before .before .before .args in
-    let col = a .speeds .now in
-    let last = c .before .before .before .loop .last in
-    let i = c .before .before .before .loop .i in
-    let holds : Ieee.le last (recordAt two col i .0) ≡ true = rw (← c .before .two-at2 .ensures) (not-false _ (c .if3 .left)) in
-    (omega arith, rw (c .before .two-at2 .ensures) (c .before .before .before .loop .inv .1 ∙ fall-pass col (a .n) last i (omega arith) holds))
-
-returns-4 : tie.Need-returns-4 Inv-loop μ-loop
-returns-4 c =
     let a = c .before .before .before .before .before .before .before .args in
-    sym (so-far (c .before) ∙ fall-end (a .speeds .now) (a .n) (c .before .loop .last) (c .before .loop .i) (omega arith))
+    let l = c .before .before .before .loop in
+    (omega arith, omega arith, l .inv .2 ∙ sorted-more (a .speeds .now) (a .n) (l .ok) (l .i) (omega arith) (c .before .speed-offset2 .ensures) (c .speed-offset3 .ensures))
+
+returns : tie.Need-returns Inv-loop μ-loop
+returns c =
+    let a = c .before .before .before .before .before .args in
+    let l = c .before .loop in
+    sym (sorted-first (a .speeds .now) (a .n) (a .o .0) (omega arith) (c .before .before .before .speed-offset .ensures) ∙ l .inv .2 ∙ sorted-end (a .speeds .now) (a .n) (l .ok) (l .i) (omega arith))
 
 pub sorted-from-spec : {M : Type 1} → statement M
 sorted-from-spec =
@@ -89,13 +51,12 @@ sorted-from-spec =
     (tie.spec
     Inv-loop
     μ-loop
-    returns
-    two-at-requires
-    returns-2
+    speed-offset-requires
     loop-holds
-    two-at-requires-2
-    returns-3
+    sub-speed-offset
+    speed-offset-requires-2
+    speed-offset-requires-3
     add-i
     loop-less
     loop-again
-    returns-4)
+    returns)

@@ -167,6 +167,33 @@ fn strap_walk(col: &[f64], n: usize, at: &[f64]) -> f64 {
     sum
 }
 
+/// 10,000 positions of one strap along 16,000 records, as one walk; the original goes position by position, since it has no other way.
+fn strap_walk_in_one() {
+    let n = 16000;
+    let col = records(n);
+    let list = original::records(&col, n);
+    let (first, step, count) = (position(1000.0, 1000.0), 15.8, 10000);
+    let theirs = |_: &mut ()| {
+        let mut s = original::state(&first, true);
+        let mut strap = path_res::Strap::new(&list, &s).unwrap();
+        let (mut front, mut back, mut force) = (first.offset, first.offset_back, 0.0);
+        for _ in 0..count {
+            s.offset.update_unchecked(front * uc::M, String::new).unwrap();
+            s.offset_back.update_unchecked(back * uc::M, String::new).unwrap();
+            force = strap.calc_res(&list, &s, &Dir::Fwd).unwrap().value;
+            (front, back) = (front + step, back + step);
+        }
+        force
+    };
+    let ours = |_: &mut ()| {
+        assert_eq!(port::list_answer(&col, n).number, 0);
+        let strap = port::strap_new_known(&col, n, first).strap;
+        port::strap_walk_known(strap, &col, n, first, 1, step, count).res
+    };
+    assert_eq!(theirs(&mut ()).to_bits(), ours(&mut ()).to_bits(), "the forces differ");
+    line("Strap, 10,000 positions as one walk, questions 1 and 2 asked once", best(25, || (), theirs), best(25, || (), ours));
+}
+
 /// 1,000 positions on a path of 1,000 links.
 fn positions() {
     let table = ring(1000);
@@ -223,6 +250,7 @@ fn main() {
     link_by_link();
     limits();
     strap();
+    strap_walk_in_one();
     positions();
     growth();
 }
