@@ -61,7 +61,7 @@ pub use refusal::Refusal;
 pub use strap::Strap;
 pub use table::LinkTable;
 pub use train::{Dir, Train, TrainType};
-pub use walk::Walk;
+pub use walk::{Run, Walk};
 
 /// The example of README.md, run with the tests.
 #[cfg(doctest)]

@@ -39,4 +39,25 @@ impl Walk<'_> {
         let found = unsafe { sys::mochaspit_strap_calc_res_known(strap.record(), col, len, n, position.record(), dir as u32) };
         res_of(found, strap)
     }
+
+    /// [`Walk::calc_res`] at `count` positions, the first at `position` and each `step` metres further. The first refusal ends the run; the
+    /// strap stands at the last position that was done.
+    pub fn run(&self, strap: &mut Strap, position: &Position, dir: Dir, step: f64, count: usize) -> Run {
+        if let Err(refusal) = position.judged() {
+            return Run { count: 0, force: 0.0, refusal: Some(refusal) };
+        }
+        let (col, len, n) = column(self.0);
+        // Safety: as for `strap`.
+        let end = unsafe { sys::mochaspit_strap_walk_known(strap.record(), col, len, n, position.record(), dir as u32, step, count) };
+        *strap = Strap { idx_front: end.strap.idx_front, idx_back: end.strap.idx_back };
+        Run { count: end.count, force: end.res, refusal: judged(end.answer).err() }
+    }
+}
+
+/// Where a run of positions ended: how many were done, the force at the last of them, and the refusal that ended it.
+#[derive(Clone, Copy, Debug, PartialEq)]
+pub struct Run {
+    pub count: usize,
+    pub force: f64,
+    pub refusal: Option<Refusal>,
 }

@@ -3,7 +3,7 @@
 mod common;
 
 use common::{link, no, path_of};
-use mochaspit::{Coeff, Dir, Elevation, Link, LinkIdx, LinkTable, Point, Position, Records, Strap};
+use mochaspit::{Coeff, Dir, Elevation, Link, LinkIdx, LinkTable, Point, Position, Records, Run, Strap};
 
 /// Coefficient 0.01 from 0, 0.02 from 100, 0 from 250.
 fn hill() -> Records<'static> {
@@ -113,6 +113,27 @@ fn a_walk_answers_as_the_single_calls() {
     }
     assert_eq!(Records::default().walk().unwrap_err().number, 2);
     assert_eq!(Records::from(vec![Coeff { res_net: f64::NAN, ..Coeff::default() }]).walk().unwrap_err().number, 1);
+}
+
+#[test]
+fn a_run_goes_on_to_the_first_refusal() {
+    let hill = hill();
+    let walk = hill.walk().unwrap();
+    for (dir, step, count) in [(Dir::Fwd, 7.5, 1000), (Dir::Unk, 7.5, 3), (Dir::Fwd, 0.0, 5), (Dir::Fwd, 7.5, 0)] {
+        let (mut a, mut b) = (Strap::default(), Strap::default());
+        let mut position = at(120.0);
+        let mut end = Run { count: 0, force: 0.0, refusal: None };
+        while end.count < count && end.refusal.is_none() {
+            match walk.calc_res(&mut b, &position, dir) {
+                Ok(force) => end = Run { count: end.count + 1, force, refusal: None },
+                Err(refusal) => end.refusal = Some(refusal),
+            }
+            position.offset += step;
+            position.offset_back += step;
+        }
+        assert_eq!(walk.run(&mut a, &at(120.0), dir, step, count), end);
+        assert_eq!(a, b);
+    }
 }
 
 /// The indices fall by the count of grades that `clear` dropped, and the force stays.

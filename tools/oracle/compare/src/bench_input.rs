@@ -67,6 +67,15 @@ pub fn empty() -> State {
     State { path: a.path, cols, original: altrios_core::track::PathTpc::new(original::train(&t)) }
 }
 
+/// The same with columns of the size that a path of so many links of `ring` needs, finished.
+pub fn fitted(links: usize) -> State {
+    let records = 3 * (4 * links + 2);
+    let mut s = empty();
+    s.cols = Cols::zeros([links + 1, 4 * (links + 1), records, records, 2 * (4 * links + 1), 0, 0]);
+    s.path = crate::port::new(train(), &mut s.cols).path;
+    s
+}
+
 /// A path of the listed links on both sides, compared before it is used.
 pub fn extended(table: &Table, list: &[u32]) -> State {
     let mut s = empty();
@@ -111,4 +120,9 @@ pub fn used<'a>(p: &PathTpc, c: &'a Cols) -> [&'a [f64]; 5] {
         &c.speeds[..2 * p.speed_count],
         &c.powers[..3 * p.power_count],
     ]
+}
+
+/// The f64 columns of a path to their ends, records or not.
+pub fn whole(c: &Cols) -> [&[f64]; 5] {
+    [&c.offsets, &c.grades, &c.curves, &c.speeds, &c.powers]
 }

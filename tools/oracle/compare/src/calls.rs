@@ -99,7 +99,7 @@ pub struct State {
 }
 
 /// The speed points that rule 1 of document 01's differences gives where none is at the kept beginning of a trim.
-fn moved_speeds(x: f64, p: &PathTpc, c: &Cols) -> Option<Vec<f64>> {
+pub fn moved_speeds(x: f64, p: &PathTpc, c: &Cols) -> Option<Vec<f64>> {
     let links = &c.offsets[..p.link_count];
     let d = links.windows(2).position(|w| w[1] >= x)?;
     let at = links[d];

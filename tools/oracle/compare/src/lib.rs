@@ -21,3 +21,4 @@ pub mod table;
 #[rustfmt::skip]
 #[path = "../../oracle/src/value.rs"]
 pub mod value;
+pub mod vectors;

@@ -1,9 +1,11 @@
 //! `compare SEED COUNT [KIND]`: COUNT scenarios of each kind, or of one, from a seed on. `compare show KIND SEED`: one in full.
+//! `compare vectors SEED COUNT FOLDER`: the vectors that crates/replay replays, from the original's answers.
 use compare::judge::{Run, Tally};
 use compare::report::{self, Differences, Progress};
 use compare::scenarios::{self, KINDS};
+use compare::vectors;
 
-const USAGE: &str = "usage: compare SEED COUNT [KIND] | compare show KIND SEED
+const USAGE: &str = "usage: compare SEED COUNT [KIND] | compare show KIND SEED | compare vectors SEED COUNT FOLDER
 kinds: paths, long, lists, positions, damaged
 CMP_SPOIL=N: every N-th call one bit of the port's answer is flipped, to see that the comparison notices";
 
@@ -37,6 +39,20 @@ fn run(first: u64, count: u64, kinds: &[usize], tally: &mut Tally) -> Difference
     all
 }
 
+/// Writes the calls and the original's answers to FOLDER/stdin and FOLDER/stdout, and says how many there are.
+fn write_vectors(seed: u64, count: u64, folder: &str) -> std::io::Result<()> {
+    let v = vectors::vectors(seed, count, &format!("compare vectors {seed} {count} {folder}"));
+    if !v.fits() {
+        return Err(std::io::Error::other("crates/replay has no room for as many calls"));
+    }
+    std::fs::write(format!("{folder}/stdin"), &v.calls)?;
+    std::fs::write(format!("{folder}/stdout"), &v.answers)?;
+    println!("stdin {} bytes, stdout {} bytes", v.calls.len(), v.answers.len());
+    v.codes.iter().for_each(|(code, n)| println!("code {code:x}: {n}"));
+    v.tally.iter().for_each(|(name, [done, refused])| println!("{name}: {done} done, {refused} refused"));
+    Ok(())
+}
+
 fn main() {
     std::panic::set_hook(Box::new(|_| {}));
     let a: Vec<String> = std::env::args().skip(1).collect();
@@ -44,6 +60,13 @@ fn main() {
     let (first, count, kinds) = match a[..] {
         ["show", k, seed] => {
             print!("{}", report::show(kind(k), number(seed)));
+            return;
+        }
+        ["vectors", seed, count, folder] => {
+            write_vectors(number(seed), number(count), folder).unwrap_or_else(|e| {
+                eprintln!("{folder}: {e}");
+                std::process::exit(2)
+            });
             return;
         }
         [first, count] => (number(first), number(count), (0..KINDS.len()).collect()),

@@ -69,13 +69,18 @@ fn plan() {
     theirs(&mut s);
     ours(&mut s);
     same(&s);
-    line("plan: new, extend by 1,000 links, 1,000 trims, finish", best(9, empty, theirs), best(9, empty, ours));
-    let whole = || extended(&table, &list);
+    let original = best(9, empty, theirs);
+    line("plan: new, extend by 1,000 links, 1,000 trims, finish", original, best(9, empty, ours));
+    line("  the same plan with columns of the size that it needs", original, best(9, || fitted(1000), ours));
+    let joined = || extended(&table, &list);
     let theirs = |s: &mut State| s.original.clear(LINK * 1.5 * uc::M).unwrap();
-    line("  one trim of that path by one link", best(9, whole, theirs), best(9, whole, |s| port::clear(s.path, LINK * 1.5, &mut s.cols)));
+    let trim = best(25, joined, |s| port::clear(s.path, LINK * 1.5, &mut s.cols));
+    line("  one trim of that path by one link", best(9, joined, theirs), trim);
+    let s = joined();
+    beside("that trim (right) beside one pass over the columns to their ends (left)", trim, best(25, || (), |_| pass(&whole(&s.cols))));
     let theirs = |s: &mut State| s.original.recalc_speeds(&table.net).unwrap();
     let ours = |s: &mut State| port::recalc_speeds(s.path, t, &mut s.cols, &table.flat);
-    line("  recalc_speeds of that path, 2,000 limits laid", best(9, whole, theirs), best(9, whole, ours));
+    line("  recalc_speeds of that path, 2,000 limits laid", best(9, joined, theirs), best(9, joined, ours));
 }
 
 /// 1,000 extensions by one link each.
@@ -91,7 +96,10 @@ fn link_by_link() {
     theirs(&mut s);
     ours(&mut s);
     same(&s);
-    line("extend link by link, 1,000 calls", best(9, empty, theirs), best(9, empty, ours));
+    let ours_time = best(9, empty, ours);
+    line("extend link by link, 1,000 calls", best(9, empty, theirs), ours_time);
+    let each = best(25, || (), |_| pass(&whole(&s.cols)));
+    beside("one of these calls (right) beside one pass over the columns to their ends (left)", ours_time / 1000, each);
 }
 
 /// Limits laid on speed points: 2,000 behind the last point, and then 97 in the midst of 3,900.

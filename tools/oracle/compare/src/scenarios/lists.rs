@@ -36,7 +36,7 @@ fn offsets(r: &mut Rng, n: usize, wild: bool) -> Vec<f64> {
 }
 
 /// A list; a few have a number that is not finite, a column with more or fewer entries, or a count past it.
-fn list(r: &mut Rng, wild: bool) -> List {
+pub fn list(r: &mut Rng, wild: bool) -> List {
     let n = if r.chance(15) { r.of(&[200, 700]) } else { r.of(&[0, 1, 1, 2, 2, 3, 3, 4, 5, 8, 12]) };
     let mut l = List { col: vec![], n };
     for x in offsets(r, n, wild) {
@@ -59,7 +59,7 @@ fn list(r: &mut Rng, wild: bool) -> List {
 }
 
 /// An index: in the list mostly, at its end, past it, or the largest of all.
-fn index(r: &mut Rng, n: usize) -> usize {
+pub fn index(r: &mut Rng, n: usize) -> usize {
     match r.to(24) {
         0 => n,
         1 => n.wrapping_sub(1),
@@ -94,7 +94,8 @@ fn accessors(r: &mut Rng, p: Point, q: Strap, s: TrainState) -> Vec<ListCall> {
     ]
 }
 
-fn at(l: &List) -> Vec<f64> {
+/// The finite offsets of a list.
+pub fn at(l: &List) -> Vec<f64> {
     l.col.chunks(3).take(l.n).map(|x| x[0]).filter(|x| x.is_finite()).collect()
 }
 

@@ -1,7 +1,7 @@
 //! The kinds of scenarios: each makes its input from a seed, and calls both sides.
 mod damaged;
-mod lists;
-mod paths;
+pub mod lists;
+pub mod paths;
 mod positions;
 
 use crate::judge::Run;

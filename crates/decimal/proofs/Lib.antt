@@ -1,0 +1,8 @@
+-- Laws of the definitions.
+pub mod Bytes
+pub mod Texts
+pub mod Steps
+pub mod Quotient
+pub mod Patterns
+pub mod Answers
+pub mod Samples

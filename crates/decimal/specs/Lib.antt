@@ -1,0 +1,5 @@
+-- The definitions of the crate `decimal`: numbers out of text.
+pub mod Digits
+pub mod Decimal
+pub mod Known
+pub mod Number
