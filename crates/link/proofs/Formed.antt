@@ -3,77 +3,94 @@ use Prim.Native.Nat.{ℕ, suc, _+_, _-_, _*_, _≤_, _<_}
 use native.Mathlib.Numerals.{add-one}
 use native.Mathlib.Omega.{arith}
 use mathlib.Core.Path.{_≡_, refl, sym, ap, ap₂, _∙_}
-use mathlib.Core.Bool.{Bool, true, false, _&&_}
+use mathlib.Core.Bool.{Bool, true, false, not, _&&_, cond, and-false}
 use mathlib.Core.List.{List}
-use lib.Dec.{leb, lit<}
-use lib.ListN.{length}
+use lib.Dec.{eqb, leb, lit<}
+use lib.ListN.{length, getD}
 use borrow.Author.Tests.{le-leb, lt-leb}
 use lib.Ieee as Ieee
 use lib.Ieee.{Float}
 use lib.Ieee.Scale.{finite}
 use Rattle.ieee.specs.Number.{+0}
+use Rattle.column.specs.Records.{recordAt, two}
+use Rattle.column.proofs.Filling.{getD-within}
+use Rattle.column.proofs.Entry.{two-entries, three-entries}
 use Rattle.link.specs.declared.train_params.TrainType.{TrainType}
 use Rattle.link.specs.declared.train_params.TrainType.the-variants.{None, Freight, Passenger, Intermodal, HighSpeedPassenger, TiltTrain, Commuter}
 use Rattle.link.specs.declared.speed_set.SpeedSet.{SpeedSet}
+use Rattle.link.specs.declared.speed_set.SetFound.{SetFound}
+use Rattle.link.specs.declared.speed_set.SetFound.the-variants.{Found, Missing}
 use Rattle.link.specs.Lists.{every, upFrom}
 use Rattle.link.specs.Train.{typeNumber}
-use Rattle.link.specs.Table.{Sample, Limit, conditionsOf, limitsOf}
+use Rattle.link.specs.Table.{Sample, Limit, limitAt, conditionsOf, limitsOf}
 use Rattle.link.specs.Condition.{conditionFormed}
-use Rattle.link.specs.Questions.{riseTo, spans, sampleFinite, samplesFormed, limitFormed, presentFormed}
+use Rattle.link.specs.Questions.{riseTo, spans, sampleFinite, samplesFormed, limitFormed, presentFormed, setFormed, isFound}
 use Rattle.link.proofs.Loops.{range-more, range-none}
 
--- ---- limits: f is whether the three numbers are finite
-numbers-first : (a b c d : Bool) → (a && (b && (c && d))) ≡ ((a && (b && c)) && d)
+-- ---- records that lie in their columns, read entry by entry; d is what a read past the end would give
+pub sample-read : (c : List Float) (i : ℕ) (d : Float) → 2 * i + 1 < length c → record { 0 = getD c (2 * i) d; 1 = getD c (2 * i + 1) d } ≡ recordAt two c i
+sample-read c i d h = rw (getD-within c (2 * i) d +0 (omega arith), getD-within c (2 * i + 1) d +0 h) (sym (two-entries c i))
+
+pub limit-read : (c : List Float) (i : ℕ) (d : Float) → 3 * i + 2 < length c → record { start = getD c (3 * i) d; end = getD c (3 * i + 1) d; value = getD c (3 * i + 2) d } ≡ limitAt c i
+limit-read c i d h =
+    rw (getD-within c (3 * i) d +0 (omega arith), getD-within c (3 * i + 1) d +0 (omega arith), getD-within c (3 * i + 2) d +0 h, three-entries c i)
+
+-- ---- limits: the three numbers, and then the order
+numbers-first : (a b c d : Bool) → ((a && (b && c)) && d) ≡ (a && (b && (c && d)))
 numbers-first true true c d = refl
 numbers-first true false c d = refl
 numbers-first false b c d = refl
 
-pub limit-asks : (l : Limit) (f : Bool) → (finite (l .start) && (finite (l .end) && finite (l .value))) ≡ f → limitFormed l ≡ (f && (Ieee.le +0 (l .start) && Ieee.le (l .start) (l .end)))
+pub limit-asks : (l : Limit) → ((finite (l .start) && (finite (l .end) && finite (l .value))) && (Ieee.le +0 (l .start) && Ieee.le (l .start) (l .end))) ≡ limitFormed l
 unfolding limitFormed
-limit-asks l f h =
-    let order = Ieee.le +0 (l .start) && Ieee.le (l .start) (l .end) in
-    numbers-first (finite (l .start)) (finite (l .end)) (finite (l .value)) order ∙ ap (λ (b : Bool). b && order) h
+limit-asks l = numbers-first (finite (l .start)) (finite (l .end)) (finite (l .value)) (Ieee.le +0 (l .start) && Ieee.le (l .start) (l .end))
 
--- ---- the offsets rise: one sample more, the first that fails, and none left
-module _ (at : ℕ → Sample) (length o : Float) (i end : ℕ) where
-  pub rise-pass : i < end → Ieee.lt o (at i .offset) ≡ true → riseTo length o (upFrom at i (end - i)) ≡ riseTo length (at i .offset) (upFrom at (i + 1) (end - (i + 1)))
-  unfolding riseTo
-  rise-pass h t = rw (range-more at i end h, t)
+-- ---- samples, with an answer so far: one more, and none left
+-- an answer, what is asked of a sample (f) and of those after it (g), and that the offset rises to it (r) and after it (s)
+in-turn : (a f g r s : Bool) → (a && ((f && g) && (r && s))) ≡ ((a && (r && f)) && (g && s))
+in-turn true true true r s = in-front r s
+  where
+    in-front : (r s : Bool) → (r && s) ≡ ((r && true) && s)
+    in-front true s = refl
+    in-front false s = refl
+in-turn true true false true s = refl
+in-turn true true false false s = refl
+in-turn true false g true s = refl
+in-turn true false g false s = refl
+in-turn false f g r s = refl
 
-  pub rise-fail : i < end → Ieee.lt o (at i .offset) ≡ false → riseTo length o (upFrom at i (end - i)) ≡ false
-  unfolding riseTo
-  rise-fail h t = rw (range-more at i end h, t)
+abbrev pub risingFrom : (ℕ → Sample) → Float → ℕ → ℕ → Float → Bool
+risingFrom at length i end o = every sampleFinite (upFrom at i (end - i)) && riseTo length o (upFrom at i (end - i))
 
-  pub rise-end : end ≤ i → riseTo length o (upFrom at i (end - i)) ≡ Ieee.eq o length
-  unfolding riseTo
-  rise-end h = rw (range-none at i end h)
+module _ (at : ℕ → Sample) (length o : Float) (i end : ℕ) (so-far : Bool) where
+  pub rising-more : i < end → (so-far && risingFrom at length i end o) ≡ ((so-far && (Ieee.lt o (at i .offset) && (finite (at i .offset) && finite (at i .value)))) && risingFrom at length (i + 1) end (at i .offset))
+  unfolding every sampleFinite riseTo
+  rising-more h = rw (range-more at i end h) (in-turn so-far (finite (at i .offset) && finite (at i .value)) _ (Ieee.lt o (at i .offset)) _)
 
--- ---- samples: none; one that is not finite; one only; two or more
+  pub rising-none : end ≤ i → (so-far && risingFrom at length i end o) ≡ (so-far && Ieee.eq o length)
+  unfolding every riseTo
+  rising-none h = rw (range-none at i end h)
+
+-- ---- samples: none; one only; two or more
 module _ (at : ℕ → Sample) (length : Float) (first count : ℕ) where
   pub samples-none : count ≡ 0 → samplesFormed length (upFrom at first count) ≡ true
   unfolding samplesFormed upFrom
   samples-none e = rw e
 
-  pub samples-fail : every sampleFinite (upFrom at first count) ≡ false → samplesFormed length (upFrom at first count) ≡ false
-  unfolding samplesFormed
-  samples-fail f = rw f
+  pub samples-one : count ≡ 1 → samplesFormed length (upFrom at first count) ≡ false
+  unfolding samplesFormed every spans upFrom
+  samples-one e = ap (λ (n : ℕ). samplesFormed length (upFrom at first n)) e ∙ and-false (sampleFinite (at first) && true)
 
-  module _ (f : every sampleFinite (upFrom at first count) ≡ true) where
-    samples-finite : samplesFormed length (upFrom at first count) ≡ spans length (upFrom at first count)
-    unfolding samplesFormed
-    samples-finite = rw f
-
-    pub samples-one : count ≡ 1 → samplesFormed length (upFrom at first count) ≡ false
-    unfolding spans upFrom
-    samples-one e = samples-finite ∙ ap (λ (n : ℕ). spans length (upFrom at first n)) e
-
-    pub samples-more : 1 < count → samplesFormed length (upFrom at first count) ≡ (Ieee.eq (at first .offset) +0 && riseTo length (at first .offset) (upFrom at (first + 1) (count - 1)))
-    unfolding spans upFrom
-    samples-more h =
-        let e : count ≡ suc (suc (count - 2)) = omega arith in
-        let less : count - 1 ≡ suc (count - 2) = omega arith in
-        let rest : upFrom at (first + 1) (count - 1) ≡ upFrom at (suc first) (suc (count - 2)) = ap₂ (upFrom at) (add-one first) less in
-        samples-finite ∙ ap (λ (n : ℕ). spans length (upFrom at first n)) e ∙ ap (λ (l : List Sample). Ieee.eq (at first .offset) +0 && riseTo length (at first .offset) l) (sym rest)
+  pub samples-more : 1 < count → samplesFormed length (upFrom at first count) ≡ ((Ieee.eq (at first .offset) +0 && (finite (at first .offset) && finite (at first .value))) && risingFrom at length (first + 1) (first + count) (at first .offset))
+  unfolding samplesFormed every sampleFinite spans upFrom
+  samples-more h =
+      let e : count ≡ suc (suc (count - 2)) = omega arith in
+      let less : first + count - (first + 1) ≡ suc (count - 2) = omega arith in
+      let rest : upFrom at (first + 1) (first + count - (first + 1)) ≡ upFrom at (suc first) (suc (count - 2)) = ap₂ (upFrom at) (add-one first) less in
+      let o = at first .offset in
+      ap (λ (n : ℕ). samplesFormed length (upFrom at first n)) e
+      ∙ in-turn true (finite o && finite (at first .value)) _ (Ieee.eq o +0) _
+      ∙ ap (λ (l : List Sample). (Ieee.eq o +0 && (finite o && finite (at first .value))) && (every sampleFinite l && riseTo length o l)) (sym rest)
 
 -- ---- a set that is present: the flag, the count of conditions, the three ranges, and then the conditions and the limits
 -- one past the last condition, and one past the last limit
@@ -129,3 +146,16 @@ type-below Intermodal = lit< tt
 type-below HighSpeedPassenger = lit< tt
 type-below TiltTrain = lit< tt
 type-below Commuter = lit< tt
+
+-- ---- a place without a set is well formed
+pub set-absent : (codes : List ℕ) (values limits : List Float) {s set : SpeedSet} → s ≡ set → s .present ≡ 0 → setFormed codes values limits set ≡ true
+unfolding setFormed
+set-absent codes values limits e z = rw (← e, z)
+
+-- ---- a set was found where there is a place
+pub found-at : (p : ℕ) (s : SpeedSet) {found : SetFound} → cond (eqb p 8) Missing (Found s) ≡ found → not (eqb p 8) ≡ isFound found
+found-at p s e = by (eqb p 8) ∙ ap isFound e
+  where
+    by : (b : Bool) → not b ≡ isFound (cond b Missing (Found s))
+    by true = refl
+    by false = refl

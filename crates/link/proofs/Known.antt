@@ -1,5 +1,5 @@
 -- What is known of a link that question 6 has passed, and of a set that question 7 has found.
-use Prim.Native.Nat.{ℕ, zero, suc, _+_, _≤_, _<_, _-_}
+use Prim.Native.Nat.{ℕ, zero, suc, _+_, _*_, _≤_, _<_, _-_}
 use native.Mathlib.Nat.{not-suc-le-zero, le-of-suc-le-suc}
 use native.Mathlib.Omega.{arith}
 use mathlib.Core.Path.{_≡_, refl, sym, ap, _∙_}
@@ -16,6 +16,7 @@ use Rattle.link.specs.declared.train_params.TrainType.{TrainType}
 use Rattle.link.specs.declared.speed_set.SpeedSet.{SpeedSet}
 use Rattle.link.specs.declared.speed_set.SetFound.{SetFound}
 use Rattle.link.specs.declared.speed_set.SetFound.the-variants.{Found, Missing}
+use Rattle.link.specs.declared.network.LinkNumbers.{LinkNumbers}
 use Rattle.link.specs.declared.network.Judged.{Judged}
 use Rattle.link.specs.declared.network.Judged.the-variants.{Yes, NoAt}
 use Rattle.link.specs.Lists.{every, upFrom, firstNo, firstNoFrom}
@@ -29,6 +30,18 @@ use Rattle.link.proofs.Loops.{range-more}
 pub and-both : (a b : Bool) → (a && b) ≡ true → (a ≡ true) × (b ≡ true)
 and-both true b e = (refl, e)
 and-both false b e = absurd (false≢true e)
+
+-- ---- the ranges of elevations, headings and power limits that lie in their pools
+pub pools-known :
+    (elevs headings powers : List Float) (districts : List ℕ) (n : LinkNumbers)
+    → inPools elevs headings powers districts n ≡ true
+    → (2 * (n .«elevs_first» + n .«elevs_count») ≤ length elevs) × (2 * (n .«headings_first» + n .«headings_count») ≤ length headings) × (3 * (n .«powers_first» + n .«powers_count») ≤ length powers)
+unfolding inPools
+pools-known elevs headings powers districts n e =
+    let a = and-both _ _ e in
+    let b = and-both _ _ (a .1) in
+    let c = and-both _ _ (b .1) in
+    (leb-true _ _ (a .0), leb-true _ _ (b .0), leb-true _ _ (c .0))
 
 -- ---- one element of a range whose elements all pass
 pub every-at : {A : Type 0} (at : ℕ → A) (ok : A → Bool) (start n k : ℕ) → k < n → every ok (upFrom at start n) ≡ true → ok (at (start + k)) ≡ true

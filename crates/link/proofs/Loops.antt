@@ -4,7 +4,7 @@ use native.Mathlib.Nat.{not-suc-le-zero, le-of-suc-le-suc}
 use native.Mathlib.Numerals.{add-one}
 use native.Mathlib.Omega.{arith}
 use mathlib.Core.Path.{_≡_, refl, sym, ap, _∙_, ap₂}
-use mathlib.Core.Bool.{Bool, true, false}
+use mathlib.Core.Bool.{Bool, true, false, _&&_, and-assoc}
 use mathlib.Core.List.{List, [], _∷_, map, _++_}
 use lib.ListN.{length, getD, take, drop}
 use Rattle.link.specs.declared.network.Judged.the-variants.{Yes, NoAt}
@@ -54,6 +54,11 @@ module _ {A : Type 0} (at : ℕ → A) where
     pub every-end : end ≤ i → every ok (upFrom at i (end - i)) ≡ true
     unfolding every
     every-end h = rw (range-none i end h)
+
+    -- one more, with an answer so far
+    pub every-more : (so-far : Bool) → i < end → (so-far && every ok (upFrom at i (end - i))) ≡ ((so-far && ok (at i)) && every ok (upFrom at (i + 1) (end - (i + 1))))
+    unfolding every
+    every-more so-far h = rw (range-more i end h) (sym (and-assoc so-far (ok (at i)) _))
 
   -- ---- the first that does not pass
   module _ (ok : A → Bool) (i end : ℕ) where

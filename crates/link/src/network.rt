@@ -91,6 +91,25 @@ pub fn link_follows(prev: u32, link: LinkNumbers) -> bool
     (link.idx_prev == prev) | (link.idx_prev_alt == prev)
 }
 
+// Question 6 of place p of link i; where no set is present only the flag is read.
+fn place_formed(
+    sets: &[u32],
+    codes: &[u32],
+    values: &[f64],
+    limits: &[f64],
+    i: usize,
+    p: usize,
+) -> bool
+    requires { ⌜ i < 2 ^ 40 ⌝ }
+    requires { ⌜ p < 8 ⌝ }
+    ensures { λ r. ⌜ r ≡ setFormed (now (codes .entry)) (now (values .entry)) (now (limits .entry)) (setAt (now (sets .entry)) i p) ⌝ }
+{
+    if set_at(sets, i, p).present == 0 {
+        return true;
+    }
+    set_formed(codes, values, limits, set_at(sets, i, p))
+}
+
 // Question 6 of the eight set places of link i.
 fn sets_formed(sets: &[u32], codes: &[u32], values: &[f64], limits: &[f64], i: usize) -> bool
     requires { ⌜ i < 2 ^ 40 ⌝ }
@@ -98,8 +117,7 @@ fn sets_formed(sets: &[u32], codes: &[u32], values: &[f64], limits: &[f64], i: u
 {
     let mut p = 0;
     while p < 8 {
-        let s = set_at(sets, i, p);
-        if !set_formed(codes, values, limits, s) {
+        if !place_formed(sets, codes, values, limits, i, p) {
             return false;
         }
         p += 1;

@@ -4,11 +4,15 @@ use native.Mathlib.Omega.{arith}
 use mathlib.Core.Path.{_≡_, refl, sym, ap, ap₂, _∙_}
 use mathlib.Core.Bool.{Bool, true, false, cond}
 use mathlib.Core.List.{List, [], _∷_}
-use lib.ListN.{length, set, length-append, length-set}
+use lib.ListN.{length, getD, set, length-append, length-set}
+use lib.Seq.{getD-set-other, set-getD}
 use lib.Ieee.{Float}
 use Rattle.ieee.specs.Number.{+0}
 use Rattle.column.specs.Entries.{filled}
 use Rattle.column.specs.Records.{flat, recordAt, putRecord}
+use Rattle.column.specs.declared.Three.{Three}
+use Rattle.column.proofs.Filling.{getD-within}
+use Rattle.column.proofs.Entry.{three-entries, three-put}
 use Rattle.column.proofs.Bridge.{length-records, read-filled, put-filled, push-filled}
 use Rattle.lookup.specs.declared.path_res_coeff.PathResCoeff.{PathResCoeff}
 use Rattle.lookup.specs.Coeff.{triple, coeffs, noCoeff, resCoeff, standsAt, coefficientOf, netOf}
@@ -32,17 +36,46 @@ with-kept : (keeps : Bool) (c : Float) (g : PathResCoeff) → resCoeff (standsAt
 with-kept true c g = refl
 with-kept false c g = refl
 
--- by the last record and the coefficient that the code reads
+-- a record with another coefficient: one entry is stored
+one-entry : (l : List Float) (i : ℕ) (c : Float) → let g = recordAt triple l i in putRecord triple l i (resCoeff (standsAt g) c (netOf g)) ≡ set l (3 * i + 1) c
+unfolding putRecord recordAt
+one-entry l i c =
+    let g = recordAt triple l i in
+    let first : standsAt g ≡ getD l (3 * i) +0 = ap (λ (t : Three). t .0) (three-entries l i) in
+    let third : netOf g ≡ getD l (3 * i + 2) +0 = ap (λ (t : Three). t .2) (three-entries l i) in
+    let other : getD (set l (3 * i + 1) c) (3 * i + 2) +0 ≡ getD l (3 * i + 2) +0 = getD-set-other l (3 * i + 1) (3 * i + 2) c +0 (λ e. omega arith) in
+    three-put l i (record { 0 = standsAt g; 1 = c; 2 = netOf g })
+    ∙ ap (λ (x : Float). set (set (set l (3 * i) x) (3 * i + 1) c) (3 * i + 2) (netOf g)) first
+    ∙ ap (λ (x : List Float). set (set x (3 * i + 1) c) (3 * i + 2) (netOf g)) (set-getD l (3 * i) +0)
+    ∙ ap (set (set l (3 * i + 1) c) (3 * i + 2)) (third ∙ sym other)
+    ∙ set-getD (set l (3 * i + 1) c) (3 * i + 2) +0
+
+-- its coefficient, read where it lies in the column
+kept-entry : (l : List Float) (m : ℕ) (d : Float) → 0 < m → 3 * (m + 1) ≤ length l → getD l (3 * m - 2) d ≡ coefficientOf (recordAt triple l (m - 1))
+unfolding recordAt
+kept-entry l m d some room =
+    let e : 3 * m - 2 ≡ 3 * (m - 1) + 1 = omega arith in
+    getD-within l (3 * m - 2) d +0 (omega arith) ∙ ap (λ (k : ℕ). getD l k +0) e ∙ sym (ap (λ (t : Three). t .1) (three-entries l (m - 1)))
+
+-- by the coefficient that the code reads, and the four entries that it stores
 pub stored :
-    (l : List Float) (m : ℕ) (s : Stretch) {l1 l2 : List Float} {g : PathResCoeff} {kept : Float}
-    → g ≡ recordAt triple l (m - 1)
-    → kept ≡ cond (s .keeps) (coefficientOf g) (s .coefficient .0)
-    → l1 ≡ putRecord triple l (m - 1) (resCoeff (standsAt g) kept (netOf g))
-    → l2 ≡ putRecord triple l1 m (resCoeff (s .offset .0) +0 (s .net .0))
-    → l2 ≡ storedAt l m s
-stored l m s {g = g} e k a b =
-    let r : resCoeff (standsAt g) _ (netOf g) ≡ withCoefficient s g = ap (λ (c : Float). resCoeff (standsAt g) c (netOf g)) k ∙ with-kept (s .keeps) (s .coefficient .0) g in
-    b ∙ ap (λ (x : List Float). putRecord triple x m (resCoeff (s .offset .0) +0 (s .net .0))) (a ∙ ap (putRecord triple l (m - 1)) (r ∙ ap (withCoefficient s) e))
+    (l : List Float) (m : ℕ) (s : Stretch) (d : Float) {kept : Float}
+    → 0 < m
+    → 3 * (m + 1) ≤ length l
+    → kept ≡ cond (s .keeps) (getD l (3 * m - 2) d) (s .coefficient .0)
+    → set (set (set (set l (3 * m - 2) kept) (3 * m) (s .offset .0)) (3 * m + 1) +0) (3 * m + 2) (s .net .0) ≡ storedAt l m s
+unfolding putRecord
+stored l m s d some room k =
+    let g = recordAt triple l (m - 1) in
+    let c = cond (s .keeps) (coefficientOf g) (s .coefficient .0) in
+    let t = resCoeff (s .offset .0) +0 (s .net .0) in
+    let e : 3 * m - 2 ≡ 3 * (m - 1) + 1 = omega arith in
+    let one : set l (3 * m - 2) _ ≡ putRecord triple l (m - 1) (withCoefficient s g) =
+    ap₂ (set l) e (k ∙ ap (λ (x : Float). cond (s .keeps) x (s .coefficient .0)) (kept-entry l m d some room))
+    ∙ sym (one-entry l (m - 1) c)
+    ∙ ap (putRecord triple l (m - 1)) (with-kept (s .keeps) (s .coefficient .0) g) in
+    ap (λ (x : List Float). set (set (set x (3 * m) (s .offset .0)) (3 * m + 1) +0) (3 * m + 2) (s .net .0)) one
+    ∙ sym (three-put (putRecord triple l (m - 1) (withCoefficient s g)) m (record { 0 = s .offset .0; 1 = +0; 2 = s .net .0 }))
 
 -- ---- one stretch laid
 module _ (gs : List PathResCoeff) (s : Stretch) where

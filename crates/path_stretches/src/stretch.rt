@@ -38,7 +38,7 @@ pub fn flat_stretch(base: Length, net: Length, length: Length) -> Stretch
     }
 }
 
-// Rise over run, and the elevation at the end.
+// Rise over run, and the elevation at the end. The rise is finite where the slope is, and the raised elevation where the one after it is.
 pub fn grade_stretch(base: Length, net: Length, prior: Elev, current: Elev) -> Stretch
     ensures { λ r. ⌜ r ≡ spec.gradeStretch (base .0) (net .0) (elevOf prior) (elevOf current) ⌝ }
 {
@@ -48,10 +48,8 @@ pub fn grade_stretch(base: Length, net: Length, prior: Elev, current: Elev) -> S
     let raised = net.0 + current.elev.0;
     let after = raised - prior.elev.0;
     let offset = base.0 + current.offset.0;
-    let finite = ieee::is_finite(rise)
-        & (ieee::is_finite(run)
-            & (ieee::is_finite(slope)
-                & (ieee::is_finite(raised) & (ieee::is_finite(after) & ieee::is_finite(offset)))));
+    let finite = ieee::is_finite(slope)
+        & (ieee::is_finite(run) & (ieee::is_finite(after) & ieee::is_finite(offset)));
     Stretch {
         keeps: false,
         coefficient: Ratio(slope),
@@ -62,6 +60,7 @@ pub fn grade_stretch(base: Length, net: Length, prior: Elev, current: Elev) -> S
 }
 
 // The resistance of a curve: by the first coefficient below one degree per 100 ft, by all three from there on.
+// A result that is finite has only finite results before it.
 fn curve_work(c0: Ratio, c1: Ratio, c2: Ratio, curvature: Curvature) -> Worked
     ensures { λ r. ⌜ r ≡ spec.curveWork (c0 .0) (c1 .0) (c2 .0) (curvature .0) ⌝ }
 {
@@ -81,13 +80,9 @@ fn curve_work(c0: Ratio, c1: Ratio, c2: Ratio, curvature: Curvature) -> Worked
     let qq = q * over;
     let c = qq / 1.0;
     let sum = ab + c;
-    let first = ieee::is_finite(over)
-        & (ieee::is_finite(a) & (ieee::is_finite(b) & ieee::is_finite(ab)));
-    let rest = ieee::is_finite(q)
-        & (ieee::is_finite(qq) & (ieee::is_finite(c) & ieee::is_finite(sum)));
     Worked {
         value: Ratio(sum),
-        finite: first & rest,
+        finite: ieee::is_finite(sum),
     }
 }
 
@@ -99,21 +94,7 @@ fn curvature_of(turn: f64, run: f64) -> Curvature
     Curvature(ieee::size(-si::half_rev().0 + rest) / run)
 }
 
-// Whether the results on the way from a turn to its curvature are finite.
-fn turn_finite(turn: f64, run: f64) -> bool
-    ensures { λ r. ⌜ r ≡ spec.turnFinite turn run ⌝ }
-{
-    let shifted = turn + si::half_rev().0;
-    let rest = shifted % si::rev().0;
-    let bend = -si::half_rev().0 + rest;
-    let curvature = ieee::size(bend) / run;
-    ieee::is_finite(run)
-        & (ieee::is_finite(turn)
-            & (ieee::is_finite(shifted)
-                & (ieee::is_finite(rest) & (ieee::is_finite(bend) & ieee::is_finite(curvature)))))
-}
-
-// The curve between two headings.
+// The curve between two headings. The net value is finite only where every result on the way to it is.
 pub fn curve_stretch(
     base: Length,
     net: Length,
@@ -135,13 +116,11 @@ pub fn curve_stretch(
     let rise = coefficient * run;
     let after = net.0 + rise;
     let offset = base.0 + current.offset.0;
-    let laid = ieee::is_finite(coefficient)
-        & (ieee::is_finite(rise) & (ieee::is_finite(after) & ieee::is_finite(offset)));
     Stretch {
         keeps: false,
         coefficient: Ratio(coefficient),
         offset: Length(offset),
         net: Length(after),
-        finite: turn_finite(turn, run) & (work.finite & laid),
+        finite: ieee::is_finite(after) & ieee::is_finite(offset),
     }
 }

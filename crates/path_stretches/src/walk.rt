@@ -6,11 +6,8 @@ use crate::stretch::grade_stretch;
 use link::elev::elev_at;
 use link::elev::heading_at;
 use link::train_params::TrainParams;
-use lookup::path_res_coeff::PathResCoeff;
 use lookup::path_res_coeff::coeff_at;
-use lookup::path_res_coeff::put_coeff;
 use si::Length;
-use si::Ratio;
 ghost use mathlib.Core.Path.{_≡_};
 ghost use Prim.Native.Nat.{_+_, _-_, _*_, _≤_, _<_, _^_};
 ghost use lib.ListN as list;
@@ -104,35 +101,18 @@ pub fn walk_stretches(
     }
 }
 
-// Lays a stretch on the m records of a column.
+// Lays a stretch on the m records of a column: the coefficient of the last one, and one record more.
 fn lay_stretch(col: &mut [f64], m: usize, s: Stretch)
     requires { ⌜ 0 < m ⌝ }
+    requires { ⌜ 3 * (m + 1) ≤ list.length (now col) ⌝ }
     ensures { λ _. ⌜ now (col .exit) ≡ putRecord triple (putRecord triple (now (col .entry)) (m - 1) (spec.withCoefficient s (recordAt triple (now (col .entry)) (m - 1)))) m (resCoeff (s .offset .0) +0 (s .net .0)) ⌝ }
 {
-    let last = coeff_at(&*col, m - 1);
-    let kept = if s.keeps {
-        last.res_coeff.0
-    } else {
-        s.coefficient.0
-    };
-    put_coeff(
-        &mut *col,
-        m - 1,
-        PathResCoeff {
-            offset: Length(last.offset.0),
-            res_coeff: Ratio(kept),
-            res_net: Length(last.res_net.0),
-        },
-    );
-    put_coeff(
-        &mut *col,
-        m,
-        PathResCoeff {
-            offset: Length(s.offset.0),
-            res_coeff: Ratio(0.0),
-            res_net: Length(s.net.0),
-        },
-    );
+    let k = 3 * m;
+    let kept = if s.keeps { col[k - 2] } else { s.coefficient.0 };
+    col[k - 2] = kept;
+    col[k] = s.offset.0;
+    col[k + 1] = 0.0;
+    col[k + 2] = s.net.0;
 }
 
 // Lays the stretches of `count` samples from `first` on, on the m records of a column; the count of records afterwards.

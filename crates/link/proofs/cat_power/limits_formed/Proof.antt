@@ -1,20 +1,20 @@
--- `limits_formed`: from limit i on the answer is that from the first on.
-use Prim.Native.Nat.{_+_, _-_, _≤_}
-use mathlib.Core.Path.{_≡_, sym, ap, _∙_}
+-- `limits_formed`: from limit i on, with the answer so far, the answer is that from the first on.
+use Prim.Native.Nat.{_-_, _≤_}
 use native.Mathlib.Omega.{arith}
-use borrow.Author.Tests.{not-true, not-false}
+use mathlib.Core.Path.{_≡_, sym, ap, _∙_}
+use mathlib.Core.Bool.{_&&_, and-true}
 use Rattle.link.specs.Lists.{every, upFrom}
 use Rattle.link.specs.Table.{limitAt}
 use Rattle.link.specs.Questions.{limitFormed}
-use Rattle.link.proofs.Loops.{whole-range, every-pass, every-fail, every-end}
+use Rattle.link.proofs.Loops.{whole-range, every-more, every-end}
 use Rattle.link.proofs.cat_power.limits_formed.Statement.{statement}
 use Rattle.link.proofs.cat_power.limits_formed.Tie as tie
 
 abbrev Inv-loop : tie.InvT-loop
-Inv-loop limits first count end i₀ i = (i ≤ end) × (every limitFormed (upFrom (limitAt limits) i (end - i)) ≡ every limitFormed (upFrom (limitAt limits) first count))
+Inv-loop limits first count end ok₀ i₀ ok i = (i ≤ end) × ((ok && every limitFormed (upFrom (limitAt limits) i (end - i))) ≡ every limitFormed (upFrom (limitAt limits) first count))
 
 abbrev μ-loop : tie.MeasureT-loop
-μ-loop limits first count end i₀ i = end - i
+μ-loop limits first count end ok₀ i₀ ok i = end - i
 
 add-end : tie.Need-add-end Inv-loop μ-loop
 add-end c = omega arith
@@ -25,15 +25,7 @@ loop-holds c =
     (omega arith, ap (every limitFormed) (whole-range (limitAt (a .limits .now)) (a .first) (a .count)))
 
 limit-formed-requires : tie.Need-limit-formed-requires Inv-loop μ-loop
-limit-formed-requires c κs = tt
-
-returns : tie.Need-returns Inv-loop μ-loop
-returns c =
-    let a = c .before .before .before .before .before .args in
-    let at = limitAt (a .limits .now) in
-    let i = c .before .before .before .loop .i in
-    let end = a .first + a .count in
-    sym (every-fail at limitFormed i end (omega arith) (sym (c .before .limit-formed .ensures) ∙ not-true _ (c .if1 .taken))) ∙ c .before .before .before .loop .inv .1
+limit-formed-requires c κs = (omega arith, omega arith)
 
 add-i : tie.Need-add-i Inv-loop μ-loop
 add-i c = omega arith
@@ -43,19 +35,13 @@ loop-less c = omega arith
 
 loop-again : tie.Need-loop-again Inv-loop μ-loop
 loop-again c =
-    let a = c .before .before .before .before .before .args in
-    let at = limitAt (a .limits .now) in
-    let i = c .before .before .before .loop .i in
-    let end = a .first + a .count in
-    (omega arith, sym (every-pass at limitFormed i end (omega arith) (sym (c .before .limit-formed .ensures) ∙ not-false _ (c .if1 .left))) ∙ c .before .before .before .loop .inv .1)
+    let l = c .before .before .loop in
+    (omega arith, rw (c .limit-formed .ensures) (sym (every-more (limitAt (c .before .before .before .before .args .limits .now)) limitFormed (l .i) _ (l .ok) (c .before .loop-test .taken)) ∙ l .inv .1))
 
-returns-2 : tie.Need-returns-2 Inv-loop μ-loop
-returns-2 c =
-    let a = c .before .before .before .args in
-    let at = limitAt (a .limits .now) in
-    let i = c .before .loop .i in
-    let end = a .first + a .count in
-    sym (every-end at limitFormed i end (omega arith)) ∙ c .before .loop .inv .1
+returns : tie.Need-returns Inv-loop μ-loop
+returns c =
+    let l = c .before .loop in
+    sym (ap (λ b. l .ok && b) (every-end (limitAt (c .before .before .before .args .limits .now)) limitFormed (l .i) _ (c .loop-test .left)) ∙ and-true (l .ok)) ∙ l .inv .1
 
 pub limits-formed-spec : {M : Type 1} → statement M
 limits-formed-spec =
@@ -66,8 +52,7 @@ limits-formed-spec =
     add-end
     loop-holds
     limit-formed-requires
-    returns
     add-i
     loop-less
     loop-again
-    returns-2)
+    returns)

@@ -3,11 +3,11 @@ use borrow.Author.Needs.{needs}
 use Rattle.link.proofs.elev.heading_at.Statement.{statement}
 use Rattle.link.proofs.elev.heading_at.Tie as tie
 
-two-at-requires : tie.Need-two-at-requires
-two-at-requires c κs = search needs
+sample-at-requires : tie.Need-sample-at-requires
+sample-at-requires c κs = search needs
 
 returns : tie.Need-returns
-returns c = rw (c .two-at .ensures)
+returns c = rw (c .sample-at .ensures)
 
 pub heading-at-spec : {M : Type 1} → statement M
-heading-at-spec = tie.close (tie.spec two-at-requires returns)
+heading-at-spec = tie.close (tie.spec sample-at-requires returns)

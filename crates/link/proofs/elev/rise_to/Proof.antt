@@ -1,45 +1,30 @@
--- `rise_to`: from sample i on, after the offset last, the answer is that from the first on.
-use Prim.Native.Nat.{_+_, _-_, _≤_}
-use mathlib.Core.Path.{_≡_, sym, ap, _∙_}
+-- `rise_to`: from sample i on, with the answer so far, the answer is that from the first on.
+use Prim.Native.Nat.{_-_, _≤_}
 use native.Mathlib.Omega.{arith}
-use borrow.Author.Tests.{not-true, not-false}
-use mathlib.Core.Bool.{true, false}
-use lib.Ieee as Ieee
-use Rattle.link.specs.Lists.{upFrom}
+use mathlib.Core.Path.{_≡_, refl, sym, _∙_}
+use mathlib.Core.Bool.{_&&_}
 use Rattle.link.specs.Table.{sampleAt}
-use Rattle.link.specs.Questions.{riseTo}
-use Rattle.link.proofs.Loops.{whole-range}
-use Rattle.link.proofs.Formed.{rise-pass, rise-fail, rise-end}
+use Rattle.link.proofs.Formed.{risingFrom, rising-more, rising-none}
 use Rattle.link.proofs.elev.rise_to.Statement.{statement}
 use Rattle.link.proofs.elev.rise_to.Tie as tie
 
 abbrev Inv-loop : tie.InvT-loop
-Inv-loop col first count o length end i₀ last₀ i last = (i ≤ end) × (riseTo length last (upFrom (sampleAt col) i (end - i)) ≡ riseTo length o (upFrom (sampleAt col) first count))
+Inv-loop col first end o length i₀ last₀ ok₀ i last ok = (i ≤ end) × ((ok && risingFrom (sampleAt col) length i end last) ≡ risingFrom (sampleAt col) length first end o)
 
 abbrev μ-loop : tie.MeasureT-loop
-μ-loop col first count o length end i₀ last₀ i last = end - i
-
-add-end : tie.Need-add-end Inv-loop μ-loop
-add-end c = omega arith
+μ-loop col first end o length i₀ last₀ ok₀ i last ok = end - i
 
 loop-holds : tie.Need-loop-holds Inv-loop μ-loop
-loop-holds c =
-    let a = c .before .args in
-    (omega arith, ap (riseTo (a .length) (a .o)) (whole-range (sampleAt (a .col .now)) (a .first) (a .count)))
+loop-holds c = (c .before .pre .0, refl)
 
-two-at-requires : tie.Need-two-at-requires Inv-loop μ-loop
-two-at-requires c κs = tt
+sample-in-requires : tie.Need-sample-in-requires Inv-loop μ-loop
+sample-in-requires c κs = omega arith
 
-returns : tie.Need-returns Inv-loop μ-loop
-returns c =
-    let a = c .before .before .before .before .before .before .args in
-    let col = a .col .now in
-    let i = c .before .before .before .before .loop .i in
-    let end = a .first + a .count in
-    let last = c .before .before .before .before .loop .last in
-    let length = a .length in
-    let ok : Ieee.lt last (sampleAt col i .offset) ≡ false = rw (← c .before .before .two-at .ensures) (not-true _ (c .if1 .taken)) in
-    sym (rise-fail (sampleAt col) length last i end (omega arith) ok) ∙ c .before .before .before .before .loop .inv .1
+is-finite-requires : tie.Need-is-finite-requires Inv-loop μ-loop
+is-finite-requires c κs = tt
+
+is-finite-requires-2 : tie.Need-is-finite-requires-2 Inv-loop μ-loop
+is-finite-requires-2 c κs = tt
 
 add-i : tie.Need-add-i Inv-loop μ-loop
 add-i c = omega arith
@@ -49,24 +34,15 @@ loop-less c = omega arith
 
 loop-again : tie.Need-loop-again Inv-loop μ-loop
 loop-again c =
-    let a = c .before .before .before .before .before .before .args in
-    let col = a .col .now in
-    let i = c .before .before .before .before .loop .i in
-    let end = a .first + a .count in
-    let last = c .before .before .before .before .loop .last in
-    let length = a .length in
-    let ok : Ieee.lt last (sampleAt col i .offset) ≡ true = rw (← c .before .before .two-at .ensures) (not-false _ (c .if1 .left)) in
-    (omega arith, rw (c .before .before .two-at .ensures) (sym (rise-pass (sampleAt col) length last i end (omega arith) ok) ∙ c .before .before .before .before .loop .inv .1))
+    let a = c .before .before .before .before .before .before .before .args in
+    let l = c .before .before .before .before .before .loop in
+    (omega arith, rw (c .before .is-finite .ensures, c .is-finite2 .ensures, c .before .before .before .sample-in .ensures) (sym (rising-more (sampleAt (a .col .now)) (a .length) (l .last) (l .i) (a .end) (l .ok) (c .before .before .before .before .loop-test .taken)) ∙ l .inv .1))
 
-returns-2 : tie.Need-returns-2 Inv-loop μ-loop
-returns-2 c =
+returns : tie.Need-returns Inv-loop μ-loop
+returns c =
     let a = c .before .before .before .args in
-    let col = a .col .now in
-    let i = c .before .loop .i in
-    let end = a .first + a .count in
-    let last = c .before .loop .last in
-    let length = a .length in
-    sym (rise-end (sampleAt col) length last i end (omega arith)) ∙ c .before .loop .inv .1
+    let l = c .before .loop in
+    sym (rising-none (sampleAt (a .col .now)) (a .length) (l .last) (l .i) (a .end) (l .ok) (c .loop-test .left)) ∙ l .inv .1
 
 pub rise-to-spec : {M : Type 1} → statement M
 rise-to-spec =
@@ -74,11 +50,11 @@ rise-to-spec =
     (tie.spec
     Inv-loop
     μ-loop
-    add-end
     loop-holds
-    two-at-requires
-    returns
+    sample-in-requires
+    is-finite-requires
+    is-finite-requires-2
     add-i
     loop-less
     loop-again
-    returns-2)
+    returns)

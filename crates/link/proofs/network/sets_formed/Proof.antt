@@ -7,7 +7,7 @@ use Rattle.link.specs.declared.speed_set.SpeedSet.{SpeedSet}
 use Rattle.link.specs.Lists.{every, upFrom}
 use Rattle.link.specs.Table.{setAt}
 use Rattle.link.specs.Questions.{setFormed}
-use Rattle.link.proofs.Judging.{said-no-of, said-yes-of}
+use Rattle.link.proofs.Judging.{said-no, said-yes}
 use Rattle.link.proofs.Loops.{every-pass, every-fail, every-end}
 use Rattle.link.proofs.network.sets_formed.Statement.{statement}
 use Rattle.link.proofs.network.sets_formed.Tie as tie
@@ -28,17 +28,14 @@ ok s = setFormed (s .args .codes .now) (s .args .values .now) (s .args .limits .
 loop-holds : tie.Need-loop-holds Inv-loop μ-loop
 loop-holds c = refl
 
-set-at-requires : tie.Need-set-at-requires Inv-loop μ-loop
-set-at-requires c κs = (c .before .before .before .before .before .before .pre, c .loop-test .taken)
-
-set-formed-requires : tie.Need-set-formed-requires Inv-loop μ-loop
-set-formed-requires c κs = tt
+place-formed-requires : tie.Need-place-formed-requires Inv-loop μ-loop
+place-formed-requires c κs = (c .before .before .before .before .before .before .pre, c .loop-test .taken)
 
 returns : tie.Need-returns Inv-loop μ-loop
 returns c =
-    let s = c .before .before .before .before .before .before .before .before .before in
-    let p = c .before .before .before .before .loop .p in
-    sym (every-fail (at s) (ok s) p 8 (c .before .before .before .loop-test .taken) (said-no-of (ok s) (c .before .before .set-at .result) (at s p) (c .before .set-formed .ensures) (c .before .before .set-at .ensures) (c .if1 .taken))) ∙ c .before .before .before .before .loop .inv
+    let s = c .before .before .before .before .before .before .before .before in
+    let p = c .before .before .before .loop .p in
+    sym (every-fail (at s) (ok s) p 8 (c .before .before .loop-test .taken) (said-no (c .before .place-formed .ensures) (c .if1 .taken))) ∙ c .before .before .before .loop .inv
 
 add-p : tie.Need-add-p Inv-loop μ-loop
 add-p c = omega arith
@@ -48,9 +45,9 @@ loop-less c = omega arith
 
 loop-again : tie.Need-loop-again Inv-loop μ-loop
 loop-again c =
-    let s = c .before .before .before .before .before .before .before .before .before in
-    let p = c .before .before .before .before .loop .p in
-    sym (every-pass (at s) (ok s) p 8 (c .before .before .before .loop-test .taken) (said-yes-of (ok s) (c .before .before .set-at .result) (at s p) (c .before .set-formed .ensures) (c .before .before .set-at .ensures) (c .if1 .left))) ∙ c .before .before .before .before .loop .inv
+    let s = c .before .before .before .before .before .before .before .before in
+    let p = c .before .before .before .loop .p in
+    sym (every-pass (at s) (ok s) p 8 (c .before .before .loop-test .taken) (said-yes (c .before .place-formed .ensures) (c .if1 .left))) ∙ c .before .before .before .loop .inv
 
 returns-2 : tie.Need-returns-2 Inv-loop μ-loop
 returns-2 c =
@@ -64,8 +61,7 @@ sets-formed-spec =
     Inv-loop
     μ-loop
     loop-holds
-    set-at-requires
-    set-formed-requires
+    place-formed-requires
     returns
     add-p
     loop-less

@@ -1,11 +1,11 @@
 -- `well_formed`: question by question, with what is left to ask after each yes.
-use Prim.Native.Nat.{ℕ}
+use Prim.Native.Nat.{ℕ, _+_, _*_, _≤_}
 use native.Mathlib.Omega.{arith}
 use mathlib.Core.Path.{_≡_, refl, sym, ap, _∙_}
 use mathlib.Core.Bool.{Bool}
 use borrow.Author.Tests.{eq-eqb, ne-eqb}
 use borrow.Author.Needs.{needs}
-use lib.ListN.{getD}
+use lib.ListN.{length, getD}
 use lib.Ieee as Ieee
 use lib.Ieee.{Float}
 use Rattle.ieee.specs.Number.{+0}
@@ -14,6 +14,7 @@ use Rattle.link.specs.declared.network.LinkNumbers.{LinkNumbers}
 use Rattle.link.specs.Table.{LinkTable, tableOf}
 use Rattle.link.specs.Questions.{wellFormed}
 use Rattle.link.proofs.Judging.{said-no, said-yes, fromSets, fromPowers, fromHeadings, fromElevs, fromAbove, fromFinite, fromPools, all-asked}
+use Rattle.link.proofs.Known.{pools-known}
 use Rattle.link.proofs.network.well_formed.Statement.{statement}
 use Rattle.link.proofs.network.well_formed.Tie as tie
 
@@ -33,6 +34,16 @@ abbrev Long : tie.After-link-numbers → Float → Type 0
 Long c x =
     let s = c .before .before .before .before .before .before .before .before .before .before .before in
     x ≡ getD (s .args .lengths .now) (s .args .n) +0
+
+-- the ranges lie in their pools
+abbrev Pooled : tie.After-link-numbers → Type 0
+Pooled c =
+    let s = c .before .before .before .before .before .before .before .before .before .before .before in
+    let n = c .link-numbers .result in
+    (2 * (n .«elevs_first» + n .«elevs_count») ≤ length (s .args .elevs .now)) × (2 * (n .«headings_first» + n .«headings_count») ≤ length (s .args .headings .now)) × (3 * (n .«powers_first» + n .«powers_count») ≤ length (s .args .powers .now))
+
+in-pool : (c : tie.Else2) → Pooled (c .before .before .before .before)
+in-pool c = pools-known _ _ _ _ _ (said-yes (c .before .in-pools .ensures) (c .if2 .left))
 
 after-place : (c : tie.Else1) (x : Float) → Long (c .before .before) x → Left (c .before .before) (fromPools x)
 after-place c x long =
@@ -94,7 +105,7 @@ cast-samples-formed-2 : tie.Need-cast-samples-formed-2
 cast-samples-formed-2 c = omega (arith, c .struct-known3 .given)
 
 samples-formed-requires : tie.Need-samples-formed-requires
-samples-formed-requires c κs = omega (arith, c .struct-known3 .given)
+samples-formed-requires c κs = (omega (arith, c .struct-known3 .given), in-pool (c .before .before .before .before .before .before) .0)
 
 returns-5 : tie.Need-returns-5
 returns-5 c = sym (after-above (c .before .before .before .before) ∙ rw (said-no (c .before .samples-formed .ensures) (c .if5 .taken)))
@@ -106,7 +117,7 @@ cast-samples-formed-4 : tie.Need-cast-samples-formed-4
 cast-samples-formed-4 c = omega (arith, c .struct-known5 .given)
 
 samples-formed-requires-2 : tie.Need-samples-formed-requires-2
-samples-formed-requires-2 c κs = omega (arith, c .struct-known5 .given)
+samples-formed-requires-2 c κs = (omega (arith, c .struct-known5 .given), in-pool (c .before .before .before .before .before .before .before .before .before .before) .1)
 
 returns-6 : tie.Need-returns-6
 returns-6 c = sym (after-elevs (c .before .before .before .before) ∙ rw (said-no (c .before .samples-formed2 .ensures) (c .if6 .taken)))
@@ -118,7 +129,7 @@ cast-limits-formed-2 : tie.Need-cast-limits-formed-2
 cast-limits-formed-2 c = omega (arith, c .struct-known7 .given)
 
 limits-formed-requires : tie.Need-limits-formed-requires
-limits-formed-requires c κs = omega (arith, c .struct-known7 .given)
+limits-formed-requires c κs = (omega (arith, c .struct-known7 .given), in-pool (c .before .before .before .before .before .before .before .before .before .before .before .before .before .before) .2)
 
 returns-7 : tie.Need-returns-7
 returns-7 c = sym (after-headings (c .before .before .before .before) ∙ rw (said-no (c .before .limits-formed .ensures) (c .if7 .taken)))

@@ -29,7 +29,9 @@ flat-stretch-requires : tie.Need-flat-stretch-requires Inv-loop μ-loop
 flat-stretch-requires c κs = tt
 
 lay-stretch-requires : tie.Need-lay-stretch-requires Inv-loop μ-loop
-lay-stretch-requires c κs = c .before .before .before .before .before .before .before .pre .0
+lay-stretch-requires c κs =
+    let a = c .before .before .before .before .before .before .before .args in
+    (c .before .before .before .before .before .before .before .pre .0, omega (arith, c .before .before .before .before .before .before .before .pre .1 .1 .0, count-range (sampleAt (a .pool .now)) (a .first) (a .count), count-none (a .count) (c .before .before .if1 .taken)))
 
 add-result : tie.Need-add-result Inv-loop μ-loop
 add-result c =
@@ -60,7 +62,10 @@ stretch-at-requires : tie.Need-stretch-at-requires Inv-loop μ-loop
 stretch-at-requires c κs = c .before .loop .inv .2
 
 lay-stretch-requires-2 : tie.Need-lay-stretch-requires-2 Inv-loop μ-loop
-lay-stretch-requires-2 c κs = c .before .before .before .loop .inv .1
+lay-stretch-requires-2 c κs =
+    let a = c .before .before .before .before .before .before .before .before .before .args in
+    let l = c .before .before .before .loop in
+    (l .inv .1, omega (arith, c .before .before .before .before .before .before .before .before .before .pre .1 .1 .0, l .inv .0, count-range (sampleAt (a .pool .now)) (a .first) (a .count), count-some (a .count) (omega arith)))
 
 add-n : tie.Need-add-n Inv-loop μ-loop
 add-n c =
