@@ -1,4 +1,4 @@
--- Laws of zeros past the entries: filling, zeroing and moving to the front, one store at a time.
+-- Laws of zeros past the entries: filling and zeroing, one store at a time.
 use Prim.Native.Nat.{ℕ, zero, suc, _+_, _-_, _≤_, _<_, min}
 use native.Mathlib.Numerals.{add-one}
 use native.Mathlib.Nat.{not-suc-le-zero, le-of-suc-le-suc}
@@ -6,10 +6,10 @@ use native.Mathlib.Omega.{arith}
 use mathlib.Core.Path.{_≡_, refl, sym, ap, _∙_}
 use mathlib.Core.Logic.{inl, inr}
 use mathlib.Core.List.{List, [], _∷_, _++_, append-nil, append-assoc, map}
-use lib.ListN.{length, take, drop, getD, set, replicate, length-append, length-set, length-take, length-replicate, drop-of-length-le, take-append-drop}
-use lib.Seq.{slice, take-suc-set, take-all, take-length, take-set-lt, drop-set-lt, drop-cons, getD-take, set-append-seam}
+use lib.ListN.{length, take, drop, getD, set, replicate, length-append, length-set, length-take, length-replicate, take-append-drop}
+use lib.Seq.{take-suc-set, take-all, take-length, drop-set-lt, set-append-seam}
 use Rattle.ieee.proofs.Round.{split}
-use Rattle.column.specs.Entries.{filled, zeroFrom, moveFront, zeroRange}
+use Rattle.column.specs.Entries.{filled, zeroFrom, zeroRange}
 
 module _ {A : Type 0} where
   -- within a list the default does not matter
@@ -89,31 +89,6 @@ module _ {A : Type 0} (z : A) where
       let e : min to (length l) ≡ to = omega arith in
       let f : from + (to - from) ≡ to = omega arith in
       rw (e, f)
-
-  -- ---- to the front
-  -- the entry at j is stored at i, not after it
-  pub move-more : (l : List A) (i j to : ℕ) (d : A) → i ≤ j → j < to → j < length l
-      → take (i + 1) (set l i (getD l j d)) ++ slice (j + 1) to (set l i (getD l j d)) ≡ take i l ++ slice j to l
-  move-more l i j to d h k m =
-      let a : i < length l = omega arith in
-      let b : i < to = omega arith in
-      let e : i < suc j = omega arith in
-      let t : j < length (take to l) = rw length-take (omega arith) in
-      rw (add-one, add-one, take-suc-set, take-set-lt, drop-set-lt, append-assoc, drop-cons (take to l) j d, getD-take)
-
-  -- nothing is left to move
-  move-none : (l : List A) (j to : ℕ) → min to (length l) ≤ j → slice j to l ≡ []
-  move-none l j to h =
-      let t : length (take to l) ≤ j = rw length-take h in
-      drop-of-length-le (take to l) t
-
-  -- the front is what was to be kept
-  pub move-done : (l l₀ : List A) (i j from to : ℕ) → length l ≡ length l₀ → i ≤ length l → min to (length l) ≤ j
-      → take i l ++ slice j to l ≡ slice from to l₀ → zeroFrom z i l ≡ moveFront z from to l₀
-  unfolding zeroFrom moveFront
-  move-done l l₀ i j from to e h k p =
-      let q : slice from to l₀ ≡ take i l = sym p ∙ rw (move-none l j to k) (append-nil (take i l)) in
-      rw (q, e)
 
 -- one entry behind those of a filled list
 pub push-entry : {A : Type 0} (z : A) (n : ℕ) (es : List A) (x : A) → length es < n → set (filled z n es) (length es) x ≡ filled z n (es ++ x ∷ [])

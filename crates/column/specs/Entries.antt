@@ -4,7 +4,7 @@ use mathlib.Core.Bool.{_&&_, cond}
 use mathlib.Core.List.{List, _∷_, _++_}
 use lib.Dec.{leb}
 use lib.ListN.{length, take, drop, replicate}
-use lib.Seq.{slice}
+use lib.Seq.{slice, paste}
 
 module _ {A : Type 0} where
   -- the entries es, and zeros after them to the length n
@@ -15,6 +15,10 @@ module _ {A : Type 0} where
   unfoldable pub zeroFrom : A → ℕ → List A → List A
   unfolding filled
   zeroFrom z from l = filled z (length l) (take from l)
+
+  -- the n entries from j on, stored from i on
+  unfoldable pub moved : ℕ → ℕ → ℕ → List A → List A
+  moved i j n l = paste l i (drop j l) n
 
   -- the entries from `from` up to `to` move to the front, and the rest becomes zero
   unfoldable pub moveFront : A → ℕ → ℕ → List A → List A

@@ -3,10 +3,12 @@ use crate::Three;
 use crate::Two;
 use crate::shorter;
 ghost use mathlib.Core.Path.{_≡_};
-ghost use lib.ListN.{getD, take};
+ghost use Prim.Native.Nat.{_+_, _≤_};
+ghost use lib.ListN.{length, getD, take, drop};
 ghost use lib.ListN as list;
+ghost use lib.Seq.{paste};
 ghost use Rattle.ieee.specs.Number.{+0, allFinite};
-ghost use Rattle.column.specs.Entries.{zeroFrom, moveFront, zeroRange, openGap, closeGap};
+ghost use Rattle.column.specs.Entries.{zeroFrom, moved, moveFront, zeroRange, openGap, closeGap};
 ghost use Rattle.column.specs.Records.{recordAt, putRecord};
 ghost use Rattle.column.specs.Records as layout;
 
@@ -40,19 +42,69 @@ pub fn zero_from(col: &mut [f64], from: usize)
     }
 }
 
+// Copies n entries of src, from `from` on, into dst, from `at` on.
+fn copy(dst: &mut [f64], at: usize, src: &[f64], from: usize, n: usize)
+    requires { ⌜ at + n ≤ length (now dst) ⌝ }
+    requires { ⌜ from + n ≤ length (now src) ⌝ }
+    ensures { λ _. ⌜ now (dst .exit) ≡ paste (now (dst .entry)) at (drop from (now (src .entry))) n ⌝ }
+{
+    let mut k = 0;
+    while k < n {
+        dst[at + k] = src[from + k];
+        k += 1;
+    }
+}
+
+// Moves n entries, at most 256, from j on to i. All are read before the first is stored, so the places may overlap; the two
+// copies compile to one memmove.
+fn move_block(col: &mut [f64], i: usize, j: usize, n: usize)
+    requires { ⌜ n ≤ 256 ⌝ }
+    requires { ⌜ i + n ≤ length (now col) ⌝ }
+    requires { ⌜ j + n ≤ length (now col) ⌝ }
+    ensures { λ _. ⌜ now (col .exit) ≡ moved i j n (now (col .entry)) ⌝ }
+{
+    let mut block = [0.0; 256];
+    copy(&mut block, 0, &*col, j, n);
+    copy(&mut *col, i, &block, 0, n);
+}
+
+// Moves n entries from j on down to i, the first block first.
+fn move_down(col: &mut [f64], i: usize, j: usize, n: usize)
+    requires { ⌜ i ≤ j ⌝ }
+    requires { ⌜ j + n ≤ length (now col) ⌝ }
+    ensures { λ _. ⌜ now (col .exit) ≡ moved i j n (now (col .entry)) ⌝ }
+{
+    let mut k = 0;
+    while k < n {
+        let m = shorter(n - k, 256);
+        move_block(&mut *col, i + k, j + k, m);
+        k += m;
+    }
+}
+
+// Moves n entries from j on up to i, the last block first.
+fn move_up(col: &mut [f64], i: usize, j: usize, n: usize)
+    requires { ⌜ j ≤ i ⌝ }
+    requires { ⌜ i + n ≤ length (now col) ⌝ }
+    ensures { λ _. ⌜ now (col .exit) ≡ moved i j n (now (col .entry)) ⌝ }
+{
+    let mut k = n;
+    while 0 < k {
+        let m = shorter(k, 256);
+        k -= m;
+        move_block(&mut *col, i + k, j + k, m);
+    }
+}
+
 // The entries from `from` up to `to` move to the front, and the rest becomes +0.
 pub fn move_front(col: &mut [f64], from: usize, to: usize)
     ensures { λ _. ⌜ now (col .exit) ≡ moveFront +0 from to (now (col .entry)) ⌝ }
 {
     let end = shorter(to, col.len());
-    let mut i = 0;
-    let mut j = from;
-    while j < end {
-        col[i] = col[j];
-        i += 1;
-        j += 1;
-    }
-    zero_from(&mut *col, i);
+    let first = shorter(from, end);
+    let n = end - first;
+    move_down(&mut *col, 0, first, n);
+    zero_from(&mut *col, n);
 }
 
 // The entries from `from` up to `to` become +0.
@@ -80,11 +132,7 @@ pub fn open_gap(col: &mut [f64], at: usize, end: usize, w: usize)
     if col.len() - end < w {
         return;
     }
-    let mut k = end;
-    while at < k {
-        k -= 1;
-        col[k + w] = col[k];
-    }
+    move_up(&mut *col, at + w, at, end - at);
 }
 
 // The w entries from `at` on go out: those after them, up to `end`, move down, and the w entries before `end` become +0.
@@ -100,11 +148,7 @@ pub fn close_gap(col: &mut [f64], at: usize, end: usize, w: usize)
     if end - at < w {
         return;
     }
-    let mut k = at + w;
-    while k < end {
-        col[k - w] = col[k];
-        k += 1;
-    }
+    move_down(&mut *col, at, at + w, end - at - w);
     zero_range(&mut *col, end - w, end);
 }
 

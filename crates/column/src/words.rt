@@ -2,9 +2,11 @@
 use crate::Four;
 use crate::shorter;
 ghost use mathlib.Core.Path.{_≡_};
-ghost use lib.ListN.{getD};
+ghost use Prim.Native.Nat.{_+_, _≤_};
+ghost use lib.ListN.{length, getD, drop};
 ghost use lib.ListN as list;
-ghost use Rattle.column.specs.Entries.{zeroFrom, moveFront};
+ghost use lib.Seq.{paste};
+ghost use Rattle.column.specs.Entries.{zeroFrom, moved, moveFront};
 ghost use Rattle.column.specs.Records.{recordAt, putRecord};
 ghost use Rattle.column.specs.Records as layout;
 
@@ -38,19 +40,55 @@ pub fn zero_from(col: &mut [u32], from: usize)
     }
 }
 
+// Copies n entries of src, from `from` on, into dst, from `at` on.
+fn copy(dst: &mut [u32], at: usize, src: &[u32], from: usize, n: usize)
+    requires { ⌜ at + n ≤ length (now dst) ⌝ }
+    requires { ⌜ from + n ≤ length (now src) ⌝ }
+    ensures { λ _. ⌜ now (dst .exit) ≡ paste (now (dst .entry)) at (drop from (now (src .entry))) n ⌝ }
+{
+    let mut k = 0;
+    while k < n {
+        dst[at + k] = src[from + k];
+        k += 1;
+    }
+}
+
+// Moves n entries, at most 256, from j on to i. All are read before the first is stored, so the places may overlap; the two
+// copies compile to one memmove.
+fn move_block(col: &mut [u32], i: usize, j: usize, n: usize)
+    requires { ⌜ n ≤ 256 ⌝ }
+    requires { ⌜ i + n ≤ length (now col) ⌝ }
+    requires { ⌜ j + n ≤ length (now col) ⌝ }
+    ensures { λ _. ⌜ now (col .exit) ≡ moved i j n (now (col .entry)) ⌝ }
+{
+    let mut block = [0; 256];
+    copy(&mut block, 0, &*col, j, n);
+    copy(&mut *col, i, &block, 0, n);
+}
+
+// Moves n entries from j on down to i, the first block first.
+fn move_down(col: &mut [u32], i: usize, j: usize, n: usize)
+    requires { ⌜ i ≤ j ⌝ }
+    requires { ⌜ j + n ≤ length (now col) ⌝ }
+    ensures { λ _. ⌜ now (col .exit) ≡ moved i j n (now (col .entry)) ⌝ }
+{
+    let mut k = 0;
+    while k < n {
+        let m = shorter(n - k, 256);
+        move_block(&mut *col, i + k, j + k, m);
+        k += m;
+    }
+}
+
 // The entries from `from` up to `to` move to the front, and the rest becomes 0.
 pub fn move_front(col: &mut [u32], from: usize, to: usize)
     ensures { λ _. ⌜ now (col .exit) ≡ moveFront 0 from to (now (col .entry)) ⌝ }
 {
     let end = shorter(to, col.len());
-    let mut i = 0;
-    let mut j = from;
-    while j < end {
-        col[i] = col[j];
-        i += 1;
-        j += 1;
-    }
-    zero_from(&mut *col, i);
+    let first = shorter(from, end);
+    let n = end - first;
+    move_down(&mut *col, 0, first, n);
+    zero_from(&mut *col, n);
 }
 
 // Record i of a column with four entries to a record.
