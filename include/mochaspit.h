@@ -15,7 +15,7 @@
  * ANSWERS
  *
  * Every call puts its questions in a fixed order, each over the whole input before the next. The first one that is answered with no
- * gives the number of the answer. Any numbers may be handed in, but for the two calls at the end of this file. Numbers:
+ * gives the number of the answer. Any numbers may be handed in. Numbers:
  *
  *    0  done
  *    1  a number that was handed in is not finite, a train has no length, its top speed is below 0, or a code is unknown
@@ -553,10 +553,10 @@ size_t mochaspit_strap_path_tpc_idx_front(mochaspit_strap strap);
  */
 mochaspit_strap_answer mochaspit_strap_fix_cache(mochaspit_strap strap, size_t sub);
 
-/* ---- many lookups in one list: mochaspit_list_answer puts questions 1 and 2 of the list once, and the two calls after it do not put
- * them again. They may be made only while the list stands as it was when mochaspit_list_answer answered done for the same col, col_len
- * and n; in particular n must not be 0 and col must hold n records. Nor do they ask whether the position's numbers are finite and its
- * length above 0: the caller sees to that. All else is as in mochaspit_strap_new and mochaspit_strap_calc_res. */
+/* ---- many lookups in one list: mochaspit_list_answer puts questions 1 and 2 of the list once, and the three calls after it put only
+ * question 2 again. They do not ask whether the numbers of list and position are finite and the position's length is above 0, but
+ * compare and compute with them as they come. All else is as in mochaspit_strap_new and mochaspit_strap_calc_res, and so are the answers
+ * while the list stands as it was when mochaspit_list_answer answered done, and of a position that passes question 1. */
 
 /*
  * Whether a list may be searched.
@@ -566,15 +566,15 @@ mochaspit_strap_answer mochaspit_strap_fix_cache(mochaspit_strap strap, size_t s
 mochaspit_answer mochaspit_list_answer(const double *col, size_t col_len, size_t n);
 
 /*
- * mochaspit_strap_new in a list that passed.
- * Questions: of two records or more, 8 of the back, 10 and 11 of the back, 10 and 11 of the front.
+ * mochaspit_strap_new without question 1.
+ * Questions: 2; then, of two records or more, 8 of the back, 10 and 11 of the back, 10 and 11 of the front.
  * Comes back: the strap. Refused: indices 0 and 0.
  */
 mochaspit_strap_answer mochaspit_strap_new_known(const double *col, size_t col_len, size_t n, mochaspit_train_state state);
 
 /*
- * mochaspit_strap_calc_res in a list that passed.
- * Questions: 1 of dir; 10 and 11 of the first search, and of the other where it is made; 8.
+ * mochaspit_strap_calc_res without question 1 of position and list.
+ * Questions: 1 of dir; 2; 10 and 11 of the first search, and of the other where it is made; 8.
  * Comes back: the strap moved, and the force. Refused: the strap as it came, force 0.
  */
 mochaspit_strap_res mochaspit_strap_calc_res_known(
@@ -590,7 +590,7 @@ typedef struct mochaspit_walked {
 
 /*
  * mochaspit_strap_calc_res_known at count positions, the first at state, and front and back of each step metres further than those of the one before.
- * Questions: those of mochaspit_strap_calc_res_known at each position in turn; the first refusal ends the walk.
+ * Questions: 1 of dir and 2, once; then those of mochaspit_strap_calc_res_known after them at each position in turn; the first refusal ends the walk.
  * Comes back: the strap and the force of the last position that was done, and how many were done; the given strap, force 0 and 0 where none was.
  */
 mochaspit_walked mochaspit_strap_walk_known(

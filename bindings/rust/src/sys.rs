@@ -232,7 +232,7 @@ extern "C" {
     pub fn mochaspit_strap_fix_cache(strap: Strap, sub: usize) -> StrapAnswer;
 }
 
-// Many lookups in one list. The caller sees to it that `n` is above 0 and that the column holds 3 n entries: `mochaspit_list_answer` done says so.
+// Many lookups in one list. Question 1 of the list is put by `mochaspit_list_answer` alone, and question 2 by each of the four.
 #[link(name = "capi", kind = "static")]
 extern "C" {
     pub fn mochaspit_list_answer(col: *const f64, col_len: usize, n: usize) -> Answer;

@@ -27,7 +27,7 @@ impl Walk<'_> {
     pub fn strap(&self, position: &Position) -> Result<Strap, Refusal> {
         position.judged()?;
         let (col, len, n) = column(self.0);
-        // Safety: as `column` says; the list passed question 2, so n is above 0 and the column holds n records.
+        // Safety: as `column` says.
         strap_of(unsafe { sys::mochaspit_strap_new_known(col, len, n, position.record()) })
     }
 
@@ -35,7 +35,7 @@ impl Walk<'_> {
     pub fn calc_res(&self, strap: &mut Strap, position: &Position, dir: Dir) -> Result<f64, Refusal> {
         position.judged()?;
         let (col, len, n) = column(self.0);
-        // Safety: as for `strap`.
+        // Safety: as `column` says.
         let found = unsafe { sys::mochaspit_strap_calc_res_known(strap.record(), col, len, n, position.record(), dir as u32) };
         res_of(found, strap)
     }
@@ -47,7 +47,7 @@ impl Walk<'_> {
             return Run { count: 0, force: 0.0, refusal: Some(refusal) };
         }
         let (col, len, n) = column(self.0);
-        // Safety: as for `strap`.
+        // Safety: as `column` says.
         let end = unsafe { sys::mochaspit_strap_walk_known(strap.record(), col, len, n, position.record(), dir as u32, step, count) };
         *strap = Strap { idx_front: end.strap.idx_front, idx_back: end.strap.idx_back };
         Run { count: end.count, force: end.res, refusal: judged(end.answer).err() }

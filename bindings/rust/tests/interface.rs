@@ -14,6 +14,11 @@ fn answer(number: u32, place: usize) -> sys::Answer {
     sys::Answer { number, place }
 }
 
+/// A train of 50 m and 2 N with its front at 60 m.
+fn state() -> sys::TrainState {
+    sys::TrainState { offset: 60.0, offset_back: 10.0, length: 50.0, weight_static: 2.0, ..sys::TrainState::default() }
+}
+
 /// Two links, of 100 m and 150 m, the limit 50–200 at 20 on the first.
 fn table() -> Table {
     Table::of(&[100.0, 150.0], &[(50.0, 200.0, 20.0)])
@@ -58,19 +63,20 @@ fn unknown_train_types() {
 fn unknown_directions() {
     let list = [0.0, 0.5, 0.0, 100.0, 0.0, 50.0];
     let (col, len, n) = (list.as_ptr(), list.len(), 2);
-    let state = sys::TrainState { offset: 60.0, offset_back: 10.0, length: 50.0, weight_static: 2.0, ..sys::TrainState::default() };
     for dir in [3, 255, u32::MAX] {
         let found = unsafe { sys::mochaspit_calc_idx(col, len, n, 50.0, 0, dir) };
         assert_eq!((found.answer, found.idx), (answer(1, 0), 0));
         let (point, strap) = (sys::Point { idx: 5 }, sys::Strap { idx_front: 6, idx_back: 4 });
-        let res = unsafe { sys::mochaspit_point_calc_res(point, col, len, n, state, dir) };
+        let res = unsafe { sys::mochaspit_point_calc_res(point, col, len, n, state(), dir) };
         assert_eq!((res.answer, res.point, res.res.to_bits()), (answer(1, 0), point, 0));
-        let res = unsafe { sys::mochaspit_strap_calc_res(strap, col, len, n, state, dir) };
+        let res = unsafe { sys::mochaspit_strap_calc_res(strap, col, len, n, state(), dir) };
         assert_eq!((res.answer, res.strap, res.res.to_bits()), (answer(1, 0), strap, 0));
+        refused_steps(strap, &list, n, dir, 1);
+        refused_steps(strap, &[], 0, dir, 1);
     }
     for dir in 0..3 {
         let start = sys::Strap::default();
-        let res = unsafe { sys::mochaspit_strap_calc_res(start, col, len, n, state, dir) };
+        let res = unsafe { sys::mochaspit_strap_calc_res(start, col, len, n, state(), dir) };
         assert_eq!((res.answer, res.strap, res.res), (answer(0, 0), start, 1.0));
     }
 }
@@ -85,6 +91,47 @@ fn a_count_that_the_column_does_not_hold() {
     let with_nan = [0.0, f64::NAN, 0.0];
     let found = unsafe { sys::mochaspit_calc_idx(with_nan.as_ptr(), 3, 9, 0.0, 0, 1) };
     assert_eq!(found.answer, answer(1, 0));
+}
+
+/// A strap's step and a walk that are refused with a number: the strap as it came, force +0, no position.
+fn refused_steps(strap: sys::Strap, list: &[f64], n: usize, dir: u32, number: u32) {
+    let (col, len) = (list.as_ptr(), list.len());
+    let res = unsafe { sys::mochaspit_strap_calc_res_known(strap, col, len, n, state(), dir) };
+    assert_eq!((res.answer, res.strap, res.res.to_bits()), (answer(number, 0), strap, 0));
+    let end = unsafe { sys::mochaspit_strap_walk_known(strap, col, len, n, state(), dir, 1.0, 3) };
+    assert_eq!((end.answer, end.strap, end.res.to_bits(), end.count), (answer(number, 0), strap, 0, 0));
+}
+
+#[test]
+fn walks_ask_question_2() {
+    let list = [f64::NAN, 0.5, 0.0, 100.0, 0.0];
+    for (list, n) in [(&list[..0], 0), (&list, 0), (&list, 2), (&list, 3), (&list, usize::MAX / 3 + 1), (&list, usize::MAX)] {
+        let new = unsafe { sys::mochaspit_strap_new_known(list.as_ptr(), list.len(), n, state()) };
+        assert_eq!((new.answer, new.strap), (answer(2, 0), sys::Strap::default()));
+        let strap = sys::Strap { idx_front: 6, idx_back: 4 };
+        for dir in 0..3 {
+            refused_steps(strap, list, n, dir, 2);
+            let none = unsafe { sys::mochaspit_strap_walk_known(strap, list.as_ptr(), list.len(), n, state(), dir, 1.0, 0) };
+            assert_eq!(none.answer, answer(2, 0));
+        }
+    }
+}
+
+#[test]
+fn walks_take_numbers_as_they_come() {
+    let start = sys::Strap::default();
+    let unread = [0.0, 0.5, 0.0, 100.0, f64::NAN, 50.0];
+    let (col, len) = (unread.as_ptr(), unread.len());
+    assert_eq!(unsafe { sys::mochaspit_list_answer(col, len, 2) }, answer(1, 0));
+    let new = unsafe { sys::mochaspit_strap_new_known(col, len, 2, state()) };
+    assert_eq!((new.answer, new.strap), (answer(0, 0), start));
+    for dir in 0..3 {
+        let res = unsafe { sys::mochaspit_strap_calc_res_known(start, col, len, 2, state(), dir) };
+        assert_eq!((res.answer, res.strap, res.res), (answer(0, 0), start, 1.0));
+        let end = unsafe { sys::mochaspit_strap_walk_known(start, col, len, 2, state(), dir, 1.0, 3) };
+        assert_eq!((end.answer, end.strap, end.res, end.count), (answer(0, 0), start, 1.0, 3));
+        refused_steps(start, &[0.0, f64::NAN, 0.0, 100.0, 0.0, 50.0], 2, dir, 8);
+    }
 }
 
 #[test]

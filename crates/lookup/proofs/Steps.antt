@@ -4,9 +4,10 @@ use native.Mathlib.Nat.{not-suc-le-zero, add-zero}
 use native.Mathlib.Numerals.{add-one}
 use native.Mathlib.Omega.{arith}
 use mathlib.Core.Path.{_≡_, refl, ap, _∙_}
-use mathlib.Core.Bool.{true, false, cond}
+use mathlib.Core.Bool.{true, false, cond, and-eq-true-iff}
 use mathlib.Core.List.{List}
-use borrow.Author.Tests.{lt-ltb, le-ltb, le-leb, lt-leb}
+use borrow.Author.Tests.{lt-ltb, le-ltb, leb-true, le-leb, lt-leb}
+use lib.Dec.{leb}
 use lib.ListN.{length, drop, drop-of-length-le}
 use lib.Seq.{drop-cons}
 use lib.Ieee as Ieee
@@ -99,6 +100,27 @@ pub unknown-forward : (x : Float) (hint : ℕ) (rs : List PathResCoeff) → find
 unfolding findIn inRange hintAllowed searched
 unknown-forward x hint rs = refl
 
+-- ---- question 2 of a list searched alone
+module _ (n : ℕ) (c : List Float) where
+  pub sound-none : n ≡ 0 → listSound n c ≡ false
+  unfolding listSound
+  sound-none e = rw (lt-leb 1 n (omega arith))
+
+  pub sound-short : 0 < n → length c < 3 * n → listSound n c ≡ false
+  unfolding listSound
+  sound-short h g = rw (le-leb 1 n h, lt-leb (3 * n) (length c) g)
+
+  pub sound-held : 0 < n → 3 * n ≤ length c → listSound n c ≡ true
+  unfolding listSound
+  sound-held h g = rw (le-leb 1 n h, le-leb (3 * n) (length c) g)
+
+  -- what a yes says
+  pub sound-known : listSound n c ≡ true → (0 < n) × (3 * n ≤ length c)
+  unfolding listSound
+  sound-known t =
+      let both = and-eq-true-iff (leb 1 n) (leb (3 * n) (length c)) .0 t in
+      (leb-true 1 n (both .0), leb-true (3 * n) (length c) (both .1))
+
 -- ---- the public call, question by question
 module _ (dir : Dir) (x : Float) (hint n : ℕ) (c : List Float) where
   pub asks-offset : finite x ≡ false → calcIdx dir x hint n c ≡ refused 1
@@ -110,13 +132,13 @@ module _ (dir : Dir) (x : Float) (hint n : ℕ) (c : List Float) where
   asks-numbers t u = rw (t, u)
 
   pub asks-some : finite x ≡ true → coeffsFinite true n c ≡ true → n ≡ 0 → calcIdx dir x hint n c ≡ refused 2
-  unfolding calcIdx listSound
-  asks-some t u e = rw (t, u, lt-leb 1 n (omega arith))
+  unfolding calcIdx
+  asks-some t u e = rw (t, u, sound-none n c e)
 
   pub asks-room : finite x ≡ true → coeffsFinite true n c ≡ true → 0 < n → length c < 3 * n → calcIdx dir x hint n c ≡ refused 2
-  unfolding calcIdx listSound
-  asks-room t u h g = rw (t, u, le-leb 1 n h, lt-leb (3 * n) (length c) g)
+  unfolding calcIdx
+  asks-room t u h g = rw (t, u, sound-short n c h g)
 
   pub asks-search : finite x ≡ true → coeffsFinite true n c ≡ true → 0 < n → 3 * n ≤ length c → calcIdx dir x hint n c ≡ findIn dir x hint (coeffs n c)
-  unfolding calcIdx listSound
-  asks-search t u h g = rw (t, u, le-leb 1 n h, le-leb (3 * n) (length c) g)
+  unfolding calcIdx
+  asks-search t u h g = rw (t, u, sound-held n c h g)

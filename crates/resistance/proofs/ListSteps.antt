@@ -15,8 +15,8 @@ use Rattle.lookup.specs.declared.lin_search_hint.Found.{Found}
 use Rattle.lookup.specs.declared.path_res_coeff.PathResCoeff.{PathResCoeff}
 use Rattle.lookup.specs.Coeff.{coeffs, coeffAt, standsAt, coefficientOf, netOf, resVal, coeffsFinite}
 use Rattle.lookup.specs.CalcIdx.{Indexed, indexed, findIn, listSound}
+use Rattle.lookup.proofs.Steps.{sound-none, sound-known}
 use Rattle.lookup.proofs.Place.{found-below}
-use Rattle.link.proofs.Known.{and-both}
 use Rattle.path.specs.declared.path_tpc.Answer.{Answer}
 use Rattle.path.specs.Answers.{done, ask, inTurn}
 use Rattle.path.proofs.InTurn.{turn-no, first-no, first-yes, first-done, last-one, turn-none}
@@ -53,8 +53,7 @@ module _ (also : Bool) (n : ℕ) (c : List Float) where
       list-second = first-yes 0 (ask 2 (listSound n c) ∷ []) (ap₂ _&&_ e f) ∙ last-one 1 (listSound n c)
 
       pub list-none : n ≡ 0 → ask 2 false ≡ listAnswer also n c
-      unfolding listSound
-      list-none h = sym (list-second ∙ ap (λ (b : Bool). ask 2 (b && leb (3 * n) (length c))) (lt-leb 1 n (omega arith)))
+      list-none h = sym (list-second ∙ ap (ask 2) (sound-none n c h))
 
       pub list-room : (n ≡ 0 → ⊥) → ask 2 (leb n (length c / 3)) ≡ listAnswer also n c
       unfolding listSound
@@ -62,11 +61,10 @@ module _ (also : Bool) (n : ℕ) (c : List Float) where
 
   -- what is known of a list that passes
   pub list-done : {r : Answer} → r ≡ listAnswer also n c → r .number ≡ 0 → (0 < n) × (3 * n ≤ length c)
-  unfolding listAnswer listSound
+  unfolding listAnswer
   list-done e h =
       let one = first-done 0 (ask 2 (listSound n c) ∷ []) (also && coeffsFinite true n c) (ap (λ (a : Answer). a .number) (sym e) ∙ h) in
-      let two = and-both _ _ (first-done 1 [] (listSound n c) (one .1) .0) in
-      (leb-true 1 n (two .0), leb-true (3 * n) (length c) (two .1))
+      sound-known n c (first-done 1 [] (listSound n c) (one .1) .0)
 
   list-answered : {r : Answer} → r ≡ listAnswer also n c → r .number ≡ 0 → r ≡ done
   unfolding listAnswer

@@ -149,7 +149,7 @@ fn asked(call: &ListCall, l: &List) -> Done<()> {
     }
 }
 
-/// Whether the calls on a list known to be sound may be made: questions 1 and 2 are answered with yes.
+/// Whether the calls on a known list are made: questions 1 and 2 are answered with yes.
 pub fn known(l: &List, s: &TrainState) -> bool {
     sound(l, position_fine(s)).is_ok()
 }

@@ -68,23 +68,20 @@ pub fn strap_calc_res(strap: Strap, col: &[f64], n: usize, state: TrainState, di
     unsafe { mochaspit_strap_calc_res(strap, col.as_ptr(), col.len(), n, state, dir) }
 }
 
-/// Questions 1 and 2 of a list, asked once for the calls on a list that is known to be sound.
+/// Questions 1 and 2 of a list, asked once for the calls on a known list.
 pub fn list_answer(col: &[f64], n: usize) -> Answer {
     unsafe { mochaspit_list_answer(col.as_ptr(), col.len(), n) }
 }
-/// Of a list that `list_answer` found sound: n is above 0, and the column holds 3 n entries.
+/// Of a list that `list_answer` found sound; question 2 alone is asked again.
 pub fn strap_new_known(col: &[f64], n: usize, state: TrainState) -> StrapAnswer {
-    assert!(n > 0 && n <= col.len() / 3);
     unsafe { mochaspit_strap_new_known(col.as_ptr(), col.len(), n, state) }
 }
 /// The same.
 pub fn strap_calc_res_known(strap: Strap, col: &[f64], n: usize, state: TrainState, dir: u32) -> StrapRes {
-    assert!(n > 0 && n <= col.len() / 3);
     unsafe { mochaspit_strap_calc_res_known(strap, col.as_ptr(), col.len(), n, state, dir) }
 }
 /// The same over many positions.
 pub fn strap_walk_known(strap: Strap, col: &[f64], n: usize, state: TrainState, dir: u32, step: f64, count: usize) -> Walked {
-    assert!(n > 0 && n <= col.len() / 3);
     unsafe { mochaspit_strap_walk_known(strap, col.as_ptr(), col.len(), n, state, dir, step, count) }
 }
 

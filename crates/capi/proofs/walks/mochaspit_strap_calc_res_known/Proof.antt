@@ -1,12 +1,12 @@
 -- `mochaspit_strap_calc_res_known`: by the direction that its code names.
-use mathlib.Core.Path.{ap, _∙_}
+use mathlib.Core.Path.{ap}
 use mathlib.Core.Bool.{false}
 use lib.Ieee.{ofBits}
 use Rattle.lookup.specs.declared.lin_search_hint.Dir.{Dir}
-use Rattle.lookup.specs.Coeff.{coeffs}
 use Rattle.path.specs.declared.path_tpc.Answer.{Answer}
 use Rattle.path.specs.Answers.{ask}
-use Rattle.resistance.specs.Strap.{calcResKnown, refusedRes}
+use Rattle.resistance.specs.Strap.{refusedRes}
+use Rattle.capi.specs.Held.{calcResHeld}
 use Rattle.capi.proofs.Directed.{direction-known, direction-unknown}
 use borrow.Author.Needs.{needs}
 use Rattle.capi.proofs.walks.mochaspit_strap_calc_res_known.Statement.{statement}
@@ -18,8 +18,8 @@ dir-of-requires c κs = search needs
 enum-known-d : tie.Need-enum-known-d
 enum-known-d c = search needs
 
-calc-res-known-requires : tie.Need-calc-res-known-requires
-calc-res-known-requires c κs = search needs
+calc-res-held-requires : tie.Need-calc-res-held-requires
+calc-res-held-requires c κs = search needs
 
 enum-told : tie.Need-enum-told
 enum-told c = search needs
@@ -30,13 +30,13 @@ asked-requires c κs = search needs
 returns : tie.Need-returns
 returns c =
     let a = c .before .before .before .before .before .before .args in
-    direction-known (a .dir) (λ (d : Dir). calcResKnown d (a .strap) (a .state) (coeffs (a .n) (a .col .now))) (refusedRes (ask 1 false) (a .strap)) (c .before .before .before .before .dir-of .ensures) (c .before .before .d .given .1) (c .calc-res-known .ensures)
+    direction-known (a .dir) (λ (d : Dir). calcResHeld d (a .strap) (a .state) (a .n) (a .col .now)) (refusedRes (ask 1 false) (a .strap)) (c .before .before .before .before .dir-of .ensures) (c .before .before .d .given .1) (c .calc-res-held .ensures)
 
 returns-2 : tie.Need-returns-2
 unfolding ofBits
 returns-2 c =
     let a = c .before .before .before .before .before .args in
-    direction-unknown (a .dir) (λ (d : Dir). calcResKnown d (a .strap) (a .state) (coeffs (a .n) (a .col .now))) (refusedRes (ask 1 false) (a .strap)) (c .before .before .before .dir-of .ensures) (c .before .enum-told .given .1) (ap (λ (x : Answer). refusedRes x (a .strap)) (c .asked .ensures))
+    direction-unknown (a .dir) (λ (d : Dir). calcResHeld d (a .strap) (a .state) (a .n) (a .col .now)) (refusedRes (ask 1 false) (a .strap)) (c .before .before .before .dir-of .ensures) (c .before .enum-told .given .1) (ap (λ (x : Answer). refusedRes x (a .strap)) (c .asked .ensures))
 
 pub mochaspit-strap-calc-res-known-spec : {M : Type 1} → statement M
 mochaspit-strap-calc-res-known-spec =
@@ -44,7 +44,7 @@ mochaspit-strap-calc-res-known-spec =
     (tie.spec
     dir-of-requires
     enum-known-d
-    calc-res-known-requires
+    calc-res-held-requires
     enum-told
     asked-requires
     returns

@@ -1,13 +1,10 @@
 -- `mochaspit_strap_walk_known`: by the direction that its code names.
-use mathlib.Core.Path.{ap, _∙_}
+use mathlib.Core.Path.{ap}
 use mathlib.Core.Bool.{false}
 use lib.Ieee.{ofBits}
 use Rattle.lookup.specs.declared.lin_search_hint.Dir.{Dir}
-use Rattle.lookup.specs.Coeff.{coeffs}
-use Rattle.path.specs.declared.path_tpc.Answer.{Answer}
 use Rattle.path.specs.Answers.{ask}
-use Rattle.ieee.specs.Number.{+0}
-use Rattle.resistance.specs.Walk.{walk, walkedTo}
+use Rattle.capi.specs.Held.{notWalked, walkHeld}
 use Rattle.capi.proofs.Directed.{direction-known, direction-unknown}
 use borrow.Author.Needs.{needs}
 use Rattle.capi.proofs.walks.mochaspit_strap_walk_known.Statement.{statement}
@@ -19,8 +16,8 @@ dir-of-requires c κs = search needs
 enum-known-d : tie.Need-enum-known-d
 enum-known-d c = search needs
 
-walk-known-requires : tie.Need-walk-known-requires
-walk-known-requires c κs = search needs
+walk-held-requires : tie.Need-walk-held-requires
+walk-held-requires c κs = search needs
 
 enum-told : tie.Need-enum-told
 enum-told c = search needs
@@ -31,13 +28,13 @@ asked-requires c κs = search needs
 returns : tie.Need-returns
 returns c =
     let a = c .before .before .before .before .before .before .args in
-    direction-known (a .dir) (λ (d : Dir). walk d (a .step .0) (a .count) (a .strap) (a .state) +0 0 (coeffs (a .n) (a .col .now))) (walkedTo (ask 1 false) (a .strap) +0 0) (c .before .before .before .before .dir-of .ensures) (c .before .before .d .given .1) (c .walk-known .ensures)
+    direction-known (a .dir) (λ (d : Dir). walkHeld d (a .step .0) (a .count) (a .strap) (a .state) (a .n) (a .col .now)) (notWalked (a .strap) (ask 1 false)) (c .before .before .before .before .dir-of .ensures) (c .before .before .d .given .1) (c .walk-held .ensures)
 
 returns-2 : tie.Need-returns-2
 unfolding ofBits
 returns-2 c =
     let a = c .before .before .before .before .before .args in
-    direction-unknown (a .dir) (λ (d : Dir). walk d (a .step .0) (a .count) (a .strap) (a .state) +0 0 (coeffs (a .n) (a .col .now))) (walkedTo (ask 1 false) (a .strap) +0 0) (c .before .before .before .dir-of .ensures) (c .before .enum-told .given .1) (ap (λ (x : Answer). walkedTo x (a .strap) +0 0) (c .asked .ensures))
+    direction-unknown (a .dir) (λ (d : Dir). walkHeld d (a .step .0) (a .count) (a .strap) (a .state) (a .n) (a .col .now)) (notWalked (a .strap) (ask 1 false)) (c .before .before .before .dir-of .ensures) (c .before .enum-told .given .1) (ap (notWalked (a .strap)) (c .asked .ensures))
 
 pub mochaspit-strap-walk-known-spec : {M : Type 1} → statement M
 mochaspit-strap-walk-known-spec =
@@ -45,7 +42,7 @@ mochaspit-strap-walk-known-spec =
     (tie.spec
     dir-of-requires
     enum-known-d
-    walk-known-requires
+    walk-held-requires
     enum-told
     asked-requires
     returns

@@ -159,7 +159,7 @@ fn strap() {
     let once = best(25, || (), |_| pass(&[&col]));
     beside("one of these calls (right) beside one pass over the column (left)", b / 10000, once);
     assert_eq!(strap_walk(&col, n, &at).to_bits(), theirs(&mut ()).to_bits(), "the forces differ");
-    line("Strap, the same run, questions 1 and 2 of the list asked once", a, best(9, || (), |_| strap_walk(&col, n, &at)));
+    line("Strap, the same run, question 1 of the list asked once", a, best(9, || (), |_| strap_walk(&col, n, &at)));
 }
 
 /// The same run with the calls on a list that is known to be sound.
@@ -199,7 +199,7 @@ fn strap_walk_in_one() {
         port::strap_walk_known(strap, &col, n, first, 1, step, count).res
     };
     assert_eq!(theirs(&mut ()).to_bits(), ours(&mut ()).to_bits(), "the forces differ");
-    line("Strap, 10,000 positions as one walk, questions 1 and 2 asked once", best(25, || (), theirs), best(25, || (), ours));
+    line("Strap, 10,000 positions as one walk, question 1 asked once", best(25, || (), theirs), best(25, || (), ours));
 }
 
 /// 1,000 positions on a path of 1,000 links.
