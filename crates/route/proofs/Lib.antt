@@ -1,0 +1,3 @@
+-- Laws of the crate route.
+pub mod Places
+pub mod Words

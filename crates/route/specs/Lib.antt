@@ -1,0 +1,3 @@
+-- Definitions of the crate route.
+pub mod Text
+pub mod Fields
