@@ -1,0 +1,71 @@
+-- `heights`: one point a turn.
+use Prim.Native.Nat.{_-_}
+use native.Mathlib.Omega.{arith}
+use borrow.Author.Needs.{needs}
+use Rattle.view.proofs.picture.heights.Statement.{statement}
+use Rattle.view.proofs.picture.heights.Tie as tie
+
+abbrev Inv-loop : tie.InvT-loop
+Inv-loop f col n i₀ t7 i = Unit {0}
+
+abbrev μ-loop : tie.MeasureT-loop
+μ-loop f col n i₀ t7 i = n - i
+
+slice-aggregate-say : tie.Need-slice-aggregate-say Inv-loop μ-loop
+slice-aggregate-say c = search needs
+
+say-requires : tie.Need-say-requires Inv-loop μ-loop
+say-requires c κs = search needs
+
+loop-holds : tie.Need-loop-holds Inv-loop μ-loop
+loop-holds c = tt
+
+two-at-requires : tie.Need-two-at-requires Inv-loop μ-loop
+two-at-requires c κs = search needs
+
+across-requires : tie.Need-across-requires Inv-loop μ-loop
+across-requires c κs = search needs
+
+level-requires : tie.Need-level-requires Inv-loop μ-loop
+level-requires c κs = search needs
+
+point-requires : tie.Need-point-requires Inv-loop μ-loop
+point-requires c κs = search needs
+
+add-i : tie.Need-add-i Inv-loop μ-loop
+add-i c = omega arith
+
+loop-less : tie.Need-loop-less Inv-loop μ-loop
+loop-less c = omega arith
+
+loop-again : tie.Need-loop-again Inv-loop μ-loop
+loop-again c = tt
+
+slice-aggregate-say-2 : tie.Need-slice-aggregate-say-2 Inv-loop μ-loop
+slice-aggregate-say-2 c = search needs
+
+say-requires-2 : tie.Need-say-requires-2 Inv-loop μ-loop
+say-requires-2 c κs = search needs
+
+returns : tie.Need-returns Inv-loop μ-loop
+returns c = search needs
+
+pub heights-spec : {M : Type 1} → statement M
+heights-spec =
+    tie.close
+    (tie.spec
+    Inv-loop
+    μ-loop
+    slice-aggregate-say
+    say-requires
+    loop-holds
+    two-at-requires
+    across-requires
+    level-requires
+    point-requires
+    add-i
+    loop-less
+    loop-again
+    slice-aggregate-say-2
+    say-requires-2
+    returns)
