@@ -1,0 +1,298 @@
+// The calls that may change the path, as lines of a route.
+use crate::columns::cut_numbers;
+use link::train_params::TrainParams;
+use path::path_tpc::Answer;
+use path::path_tpc::PathAnswer;
+use path::path_tpc::PathTpc;
+use route::fields::float_at;
+use route::fill::fill_list;
+use route::kinds::CLEAR;
+use route::kinds::EXTEND;
+use route::kinds::FINISH;
+use route::kinds::NEW;
+use route::kinds::RECALCULATE;
+use si::Length;
+
+// What a call leaves: its answer, the path's record, and the counts of the links that went.
+pub struct Step {
+    pub answer: Answer,
+    pub path: PathTpc,
+    pub grades: usize,
+    pub curves: usize,
+}
+
+fn step_of(r: PathAnswer) -> Step {
+    let answer = r.answer;
+    let path = r.path;
+    Step {
+        answer,
+        path,
+        grades: 0,
+        curves: 0,
+    }
+}
+
+fn extend(
+    text: &[u8],
+    at: usize,
+    train: TrainParams,
+    p: PathTpc,
+    offsets: &mut [f64],
+    numbers: &mut [u32],
+    grades: &mut [f64],
+    curves: &mut [f64],
+    speeds: &mut [f64],
+    powers: &mut [f64],
+    districts: &mut [u32],
+    links: &[u32],
+    lengths: &[f64],
+    sets: &[u32],
+    elevs: &[f64],
+    headings: &[f64],
+    limits: &[f64],
+    codes: &[u32],
+    values: &[f64],
+    pool: &[f64],
+    regions: &[u32],
+) -> Step {
+    let mut list = [0u32; 1025];
+    let n = fill_list(text, at, &mut list);
+    step_of(path_extend::extend::extend(
+        p,
+        train,
+        cut_numbers(&list, n),
+        &mut *offsets,
+        &mut *numbers,
+        &mut *grades,
+        &mut *curves,
+        &mut *speeds,
+        &mut *powers,
+        &mut *districts,
+        links,
+        lengths,
+        sets,
+        elevs,
+        headings,
+        limits,
+        codes,
+        values,
+        pool,
+        regions,
+    ))
+}
+
+fn reindex(
+    text: &[u8],
+    at: usize,
+    p: PathTpc,
+    offsets: &mut [f64],
+    numbers: &mut [u32],
+    grades: &mut [f64],
+    curves: &mut [f64],
+    speeds: &mut [f64],
+    powers: &mut [f64],
+    districts: &mut [u32],
+) -> Step {
+    let mut list = [0u32; 1025];
+    let n = fill_list(text, at, &mut list);
+    step_of(path_links::reindex::reindex(
+        p,
+        cut_numbers(&list, n),
+        &mut *offsets,
+        &mut *numbers,
+        &mut *grades,
+        &mut *curves,
+        &mut *speeds,
+        &mut *powers,
+        &mut *districts,
+    ))
+}
+
+fn clear(
+    x: Length,
+    p: PathTpc,
+    offsets: &mut [f64],
+    numbers: &mut [u32],
+    grades: &mut [f64],
+    curves: &mut [f64],
+    speeds: &mut [f64],
+    powers: &mut [f64],
+    districts: &mut [u32],
+) -> Step {
+    let r = path_trim::clear::clear(
+        p,
+        x,
+        &mut *offsets,
+        &mut *numbers,
+        &mut *grades,
+        &mut *curves,
+        &mut *speeds,
+        &mut *powers,
+        &mut *districts,
+    );
+    let outcome = r.outcome;
+    let dropped = r.dropped;
+    let answer = outcome.answer;
+    let path = outcome.path;
+    Step {
+        answer,
+        path,
+        grades: dropped.grade_count,
+        curves: dropped.curve_count,
+    }
+}
+
+// The calls that need no table.
+fn plain_change(
+    text: &[u8],
+    at: usize,
+    kind: u32,
+    train: TrainParams,
+    p: PathTpc,
+    offsets: &mut [f64],
+    numbers: &mut [u32],
+    grades: &mut [f64],
+    curves: &mut [f64],
+    speeds: &mut [f64],
+    powers: &mut [f64],
+    districts: &mut [u32],
+) -> Step {
+    if kind == NEW {
+        return step_of(path_trim::new::new(
+            train,
+            &mut *offsets,
+            &mut *numbers,
+            &mut *grades,
+            &mut *curves,
+            &mut *speeds,
+            &mut *powers,
+            &mut *districts,
+        ));
+    }
+    if kind == CLEAR {
+        return clear(
+            Length(float_at(text, at, 1)),
+            p,
+            &mut *offsets,
+            &mut *numbers,
+            &mut *grades,
+            &mut *curves,
+            &mut *speeds,
+            &mut *powers,
+            &mut *districts,
+        );
+    }
+    if kind == FINISH {
+        return step_of(path_trim::finish::finish(
+            p,
+            &mut *offsets,
+            &mut *numbers,
+            &mut *grades,
+            &mut *curves,
+            &mut *speeds,
+            &mut *powers,
+            &mut *districts,
+        ));
+    }
+    reindex(
+        text,
+        at,
+        p,
+        &mut *offsets,
+        &mut *numbers,
+        &mut *grades,
+        &mut *curves,
+        &mut *speeds,
+        &mut *powers,
+        &mut *districts,
+    )
+}
+
+// The call of the line at `at`.
+pub fn change(
+    text: &[u8],
+    at: usize,
+    kind: u32,
+    train: TrainParams,
+    p: PathTpc,
+    offsets: &mut [f64],
+    numbers: &mut [u32],
+    grades: &mut [f64],
+    curves: &mut [f64],
+    speeds: &mut [f64],
+    powers: &mut [f64],
+    districts: &mut [u32],
+    links: &[u32],
+    lengths: &[f64],
+    sets: &[u32],
+    elevs: &[f64],
+    headings: &[f64],
+    limits: &[f64],
+    codes: &[u32],
+    values: &[f64],
+    pool: &[f64],
+    regions: &[u32],
+) -> Step {
+    if kind == EXTEND {
+        return extend(
+            text,
+            at,
+            train,
+            p,
+            &mut *offsets,
+            &mut *numbers,
+            &mut *grades,
+            &mut *curves,
+            &mut *speeds,
+            &mut *powers,
+            &mut *districts,
+            links,
+            lengths,
+            sets,
+            elevs,
+            headings,
+            limits,
+            codes,
+            values,
+            pool,
+            regions,
+        );
+    }
+    if kind == RECALCULATE {
+        return step_of(path_speeds::recalc_speeds::recalc_speeds(
+            p,
+            train,
+            &mut *offsets,
+            &mut *numbers,
+            &mut *grades,
+            &mut *curves,
+            &mut *speeds,
+            &mut *powers,
+            &mut *districts,
+            links,
+            lengths,
+            sets,
+            elevs,
+            headings,
+            limits,
+            codes,
+            values,
+            pool,
+            regions,
+        ));
+    }
+    plain_change(
+        text,
+        at,
+        kind,
+        train,
+        p,
+        &mut *offsets,
+        &mut *numbers,
+        &mut *grades,
+        &mut *curves,
+        &mut *speeds,
+        &mut *powers,
+        &mut *districts,
+    )
+}

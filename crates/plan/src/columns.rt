@@ -1,0 +1,161 @@
+// The columns that a run needs: the link table, the path, and what was joined.
+use crate::session::run;
+use route::fill::fill_table;
+use route::judge::Seen;
+ghost use Prim.Native.Nat.{_≤_};
+
+// The first n entries of a column, all where it has fewer.
+pub fn cut_numbers(col: &[u32], n: usize) -> &[u32] {
+    if n <= col.len() {
+        return &col[..n];
+    }
+    col
+}
+
+fn cut_floats(col: &[f64], n: usize) -> &[f64] {
+    if n <= col.len() {
+        return &col[..n];
+    }
+    col
+}
+
+// The number of the last link of a route, which a table has room for.
+fn last_link(n: usize) -> usize
+    ensures { λ r. ⌜ r ≤ 1024 ⌝ }
+{
+    if n < 1024 {
+        return n;
+    }
+    1024
+}
+
+// A run on a path with columns at document 01's bounds.
+fn with_path(
+    text: &[u8],
+    seen: Seen,
+    svg: bool,
+    links: &[u32],
+    lengths: &[f64],
+    sets: &[u32],
+    elevs: &[f64],
+    headings: &[f64],
+    limits: &[f64],
+    codes: &[u32],
+    values: &[f64],
+    pool: &[f64],
+    regions: &[u32],
+) {
+    let mut offsets = [0.0f64; 1025];
+    let mut numbers = [0u32; 4100];
+    let mut grades = [0.0f64; 49152];
+    let mut curves = [0.0f64; 49152];
+    let mut speeds = [0.0f64; 8192];
+    let mut powers = [0.0f64; 3072];
+    let mut districts = [0u32; 1024];
+    let mut boards = [0.0f64; 12288];
+    let mut tags = [0.0f64; 8192];
+    let mut borders = [0.0f64; 4096];
+    let mut heights = [0.0f64; 65536];
+    run(
+        text,
+        seen,
+        svg,
+        &mut offsets,
+        &mut numbers,
+        &mut grades,
+        &mut curves,
+        &mut speeds,
+        &mut powers,
+        &mut districts,
+        links,
+        lengths,
+        sets,
+        elevs,
+        headings,
+        limits,
+        codes,
+        values,
+        pool,
+        regions,
+        &mut boards,
+        &mut tags,
+        &mut borders,
+        &mut heights,
+    );
+}
+
+// A run on a table whose links are cut to those of the route.
+fn with_links(
+    text: &[u8],
+    seen: Seen,
+    svg: bool,
+    links: &mut [u32],
+    lengths: &mut [f64],
+    sets: &mut [u32],
+    elevs: &mut [f64],
+    headings: &mut [f64],
+    limits: &mut [f64],
+    codes: &mut [u32],
+    values: &mut [f64],
+    pool: &mut [f64],
+    regions: &mut [u32],
+) {
+    fill_table(
+        text,
+        &mut *links,
+        &mut *lengths,
+        &mut *sets,
+        &mut *elevs,
+        &mut *headings,
+        &mut *limits,
+        &mut *codes,
+        &mut *values,
+        &mut *pool,
+        &mut *regions,
+    );
+    let n = last_link(seen.links);
+    with_path(
+        text,
+        seen,
+        svg,
+        cut_numbers(&*links, 11 * n + 11),
+        cut_floats(&*lengths, n + 1),
+        cut_numbers(&*sets, 48 * n + 48),
+        &*elevs,
+        &*headings,
+        &*limits,
+        &*codes,
+        &*values,
+        &*pool,
+        &*regions,
+    );
+}
+
+// A run with columns for the link table.
+pub fn with_table(text: &[u8], seen: Seen, svg: bool) {
+    let mut links = [0u32; 11275];
+    let mut lengths = [0.0f64; 1025];
+    let mut sets = [0u32; 49200];
+    let mut elevs = [0.0f64; 32768];
+    let mut headings = [0.0f64; 32768];
+    let mut limits = [0.0f64; 24576];
+    let mut codes = [0u32; 16384];
+    let mut values = [0.0f64; 8192];
+    let mut pool = [0.0f64; 3072];
+    let mut regions = [0u32; 1024];
+    with_links(
+        text,
+        seen,
+        svg,
+        &mut links,
+        &mut lengths,
+        &mut sets,
+        &mut elevs,
+        &mut headings,
+        &mut limits,
+        &mut codes,
+        &mut values,
+        &mut pool,
+        &mut regions,
+    );
+}

@@ -1,0 +1,184 @@
+// Answers, refusals and faults of a route file in words.
+use path::path_tpc::Answer;
+use route::judge::Seen;
+use route::kinds::CLEAR;
+use route::kinds::CURVES;
+use route::kinds::ELEV;
+use route::kinds::EXTEND;
+use route::kinds::GRADES;
+use route::kinds::HEADING;
+use route::kinds::LINK;
+use route::kinds::LOCATE;
+use route::kinds::NEW;
+use route::kinds::POWER;
+use route::kinds::REINDEX;
+use route::kinds::RESISTANCE;
+use route::kinds::SET;
+use route::kinds::TRAIN;
+use route::kinds::WHEN;
+use show::plain;
+use show::say;
+use show::tell;
+use show::tell_count;
+
+// What a question asks, for a call that it refused.
+fn refusal(number: u32) {
+    match number {
+        1 => say(b"a number is not finite, the train has no length, or a top speed is below 0"),
+        2 => say(b"the path is not sound, or there is none yet"),
+        3 => say(b"the path is finished"),
+        4 => say(b"no link of that number is in the table"),
+        5 => say(b"the link does not follow the one before it"),
+        6 => say(b"the link is not well formed"),
+        7 => say(b"the link has no speed set for this train"),
+        8 => say(b"a sum is too large to be a number, or a link has no length at that distance"),
+        9 => say(b"there is no room for the records"),
+        10 => say(b"the offset, or the link, is out of range"),
+        11 => say(b"the index is not allowed"),
+        12 => say(b"the path has no link"),
+        _ => say(b"unknown"),
+    }
+}
+
+// Done, or why not; whether it is done.
+pub fn outcome(a: Answer) -> bool {
+    if a.number == 0 {
+        say(b"done");
+        return true;
+    }
+    say(b"refused by question ");
+    plain(a.number as usize);
+    say(b" at place ");
+    plain(a.place);
+    say(b": ");
+    refusal(a.number);
+    say(b"\n");
+    false
+}
+
+// The same to standard error, where standard output is a picture.
+pub fn told(line: usize, a: Answer) {
+    if a.number != 0 {
+        tell(b"plan: line ");
+        tell_count(line);
+        tell(b": refused by question ");
+        tell_count(a.number as usize);
+        tell(b" at place ");
+        tell_count(a.place);
+        tell(b"\n");
+    }
+}
+
+// The word of a call.
+pub fn call_name(kind: u32) {
+    match kind {
+        9 => say(b"new"),
+        10 => say(b"extend"),
+        11 => say(b"clear"),
+        12 => say(b"finish"),
+        13 => say(b"recalculate"),
+        14 => say(b"reindex"),
+        15 => say(b"locate"),
+        16 => say(b"resistance"),
+        17 => say(b"grades"),
+        18 => say(b"curves"),
+        19 => say(b"powers"),
+        _ => say(b"show"),
+    }
+}
+
+// The beginning of a call's line.
+pub fn begins(line: usize, kind: u32) {
+    say(b"line ");
+    plain(line);
+    say(b": ");
+    call_name(kind);
+    say(b": ");
+}
+
+// The form of a line of the train or of the link table.
+fn table_form(kind: u32) {
+    if kind == TRAIN {
+        say(b"train LENGTH TOP_SPEED MASS MASS_PER_BRAKE AXLES TYPE C0 C1 C2");
+    } else if kind == LINK {
+        say(b"link NUMBER LENGTH NEXT OTHER_NEXT BEFORE OTHER_BEFORE");
+    } else if kind == ELEV {
+        say(b"elev OFFSET HEIGHT");
+    } else if kind == HEADING {
+        say(b"heading OFFSET RADIANS");
+    } else if kind == POWER {
+        say(b"power START END WATTS DISTRICT");
+    } else if kind == SET {
+        say(b"set all|TYPE tail|head");
+    } else if kind == WHEN {
+        say(b"when mass|brake|axles =|>|<|>=|<= VALUE");
+    } else {
+        say(b"limit START END SPEED");
+    }
+}
+
+// The form of a call.
+fn call_form(kind: u32) {
+    if kind == EXTEND {
+        say(b"extend LINK .. (at most 1,025 whole numbers)");
+    } else if kind == CLEAR {
+        say(b"clear OFFSET");
+    } else if kind == REINDEX {
+        say(b"reindex NEW .. (at most 1,025 whole numbers, for the old numbers 0, 1, 2, ..)");
+    } else if kind == LOCATE {
+        say(b"locate FRONT BACK");
+    } else if kind == RESISTANCE {
+        say(b"resistance unk|fwd|bwd FRONT BACK WEIGHT");
+    } else if (kind == GRADES) | (kind == CURVES) {
+        call_name(kind);
+        say(b" K (link K of the path, from 0)");
+    } else {
+        call_name(kind);
+        say(b" alone");
+    }
+}
+
+// What a line of this kind should be.
+fn form(kind: u32) {
+    if kind < NEW {
+        table_form(kind);
+    } else {
+        call_form(kind);
+    }
+}
+
+// Why the last line judged cannot be read, and what was expected.
+fn expected(s: Seen) {
+    let fault = s.fault;
+    match fault {
+        1 => {
+            say(b"field ");
+            plain(s.field);
+            say(b" is missing, too much, or cannot be read; expected: ");
+            form(s.kind);
+        }
+        2 => say(
+            b"unknown word; expected: train, link, elev, heading, power, set, when, limit, or a call",
+        ),
+        3 => say(b"expected: one train only"),
+        4 => {
+            say(b"expected: links numbered 1, 2, 3, .. in the file's order; the last one was ");
+            plain(s.links);
+        }
+        5 => say(b"expected: a link line before it"),
+        6 => say(b"expected: a set line of this link before it"),
+        7 => say(b"expected: one set of a link for the same trains"),
+        8 => say(b"no room for more of these lines"),
+        _ => say(b"expected: a train line in the file"),
+    }
+}
+
+// The line of a file that cannot be read.
+pub fn fault(name: &[u8], s: Seen) {
+    say(name);
+    say(b", line ");
+    plain(s.line);
+    say(b": ");
+    expected(s);
+    say(b". Nothing was run.\n");
+}
