@@ -1,4 +1,5 @@
 // The picture of a run as SVG: distance across, the speed posted as a step line, limits with their tails, link borders, dropped links grey, heights below.
+use crate::stretches::smaller;
 use show::real;
 use show::say;
 
@@ -10,10 +11,6 @@ pub struct Frame {
     pub top: f64,
     pub low: f64,
     pub high: f64,
-}
-
-fn smaller(a: f64, b: f64) -> f64 {
-    if b < a { b } else { a }
 }
 
 fn larger(a: f64, b: f64) -> f64 {

@@ -38,7 +38,8 @@ fn reason(boards: &[f64], tags: &[f64], n: usize, i: usize, x: f64, v: f64, top:
     say(b"the speed points given");
 }
 
-fn smaller(a: f64, b: f64) -> f64 {
+// The smaller of two numbers.
+pub fn smaller(a: f64, b: f64) -> f64 {
     if b < a { b } else { a }
 }
 
@@ -84,7 +85,7 @@ fn row(x: f64, to: f64, last: bool, v: f64) {
 // The rows of a stretch from x up to `to` with speed v, one for each piece that another limit, or its tail, holds.
 fn pieces(boards: &[f64], tags: &[f64], n: usize, from: f64, to: f64, v: f64, top: Velocity) {
     let mut x = from;
-    let mut left = 10000;
+    let mut left: usize = 10000;
     while 0 < left {
         if !(x < to) {
             return;
