@@ -8,9 +8,9 @@ use lib.Dec.{T, not-T}
 use lib.ListN.{length, drop, length-drop}
 use lib.Ieee as Ieee
 use lib.Ieee.{Float, nan}
-use lib.Ieee.Bits.{is-false}
+use lib.Ieee.Bits.{is-true, is-false}
 use Rattle.ieee.specs.Number.{real}
-use Rattle.ieee.proofs.Order.{le-trans, le-real-l, le-real-r, lt→le, lt-irrefl, eq→le, not-lt, of-true, of-false}
+use Rattle.ieee.proofs.Order.{le-trans, le-real-l, le-real-r, lt→le, lt-irrefl, eq→le, le-lt-trans, not-lt, of-true, of-false}
 use Rattle.speed.specs.Points.{Point, point, offsetAt}
 use Rattle.speed.specs.Insert.{firstFrom}
 use Rattle.speed.specs.Clear.{isAt, moveTo, clearFrom, clearPoints}
@@ -67,6 +67,16 @@ module _ (X : Float) where
       pick true = refl
       pick false = rw (less-one (suc n), less-one n)
 
+  -- where the first stands does not matter, as long as it is before X
+  from-either : (p q : Point) (ps : List Point) → p .speed ≡ q .speed → Ieee.lt (p .offset) X ≡ true → Ieee.lt (q .offset) X ≡ true → clearPoints (p ∷ ps) X ≡ clearPoints (q ∷ ps) X
+  from-either p q [] e a b = from-only p ∙ ap (λ (v : Float). point X v ∷ []) e ∙ sym (from-only q)
+  from-either p q (r ∷ ps) e a b = pick (Ieee.lt (r .offset) X) refl (Ieee.eq (r .offset) X) refl
+    where
+      pick : (c : Bool) → Ieee.lt (r .offset) X ≡ c → (d : Bool) → Ieee.eq (r .offset) X ≡ d → clearPoints (p ∷ r ∷ ps) X ≡ clearPoints (q ∷ r ∷ ps) X
+      pick true k d m = from-next p r ps a k ∙ sym (from-next q r ps b k)
+      pick false k true m = from-at p r ps a k m ∙ sym (from-at q r ps b k m)
+      pick false k false m = from-last p r ps a k m ∙ ap (λ (v : Float). point X v ∷ r ∷ ps) e ∙ sym (from-last q r ps b k m)
+
 -- Of the points from k on, q and rest, the first moves to X.
 record Left (ps : List Point) (X : Float) : Type 0 where
   k : ℕ
@@ -76,12 +86,13 @@ record Left (ps : List Point) (X : Float) : Type 0 where
   order : SortedFrom X rest
   left : clearPoints ps X ≡ point X (q .speed) ∷ rest
   posts : (x u : Float) → T (Ieee.le X x) → posted x ps u ≡ posted x rest (q .speed)
+  again : (Y : Float) → T (Ieee.lt X Y) → clearPoints (point X (q .speed) ∷ rest) Y ≡ clearPoints ps Y
 
 left-first : (X : Float) (p : Point) (ps : List Point) → T (Ieee.le (p .offset) X) → SortedFrom X ps → clearPoints (p ∷ ps) X ≡ point X (p .speed) ∷ ps → Left (p ∷ ps) X
-left-first X p ps b o e = record { k = 0; q = p; rest = ps; from = refl; order = o; left = e; posts = λ x u h. ap (posted x ps) (passes x p u (le-trans (p .offset) X x b h)) }
+left-first X p ps b o e = record { k = 0; q = p; rest = ps; from = refl; order = o; left = e; posts = λ x u h. ap (posted x ps) (passes x p u (le-trans (p .offset) X x b h)); again = λ Y h. from-either Y (point X (p .speed)) p ps refl (is-true _ h) (is-true _ (le-lt-trans (p .offset) X Y b h)) }
 
-left-next : (X : Float) (p : Point) (ps : List Point) → clearPoints (p ∷ ps) X ≡ clearPoints ps X → Left ps X → Left (p ∷ ps) X
-left-next X p ps e l = record { k = suc (l .k); q = l .q; rest = l .rest; from = l .from; order = l .order; left = e ∙ l .left; posts = λ x u. l .posts x (passed x p u) }
+left-next : (X : Float) (p q : Point) (ps : List Point) → T (Ieee.le (p .offset) X) → T (Ieee.le (q .offset) X) → clearPoints (p ∷ q ∷ ps) X ≡ clearPoints (q ∷ ps) X → Left (q ∷ ps) X → Left (p ∷ q ∷ ps) X
+left-next X p q ps a b e l = record { k = suc (l .k); q = l .q; rest = l .rest; from = l .from; order = l .order; left = e ∙ l .left; posts = λ x u. l .posts x (passed x p u); again = λ Y h. l .again Y h ∙ sym (from-next Y p q ps (is-true _ (le-lt-trans (p .offset) X Y a h)) (is-true _ (le-lt-trans (q .offset) X Y b h))) }
 
 cleared : (X : Float) (p : Point) (ps : List Point) → T (Ieee.le (p .offset) X) → SortedFrom (p .offset) ps → Left (p ∷ ps) X
 cleared X p [] b h = left-first X p [] b tt (from-only X p)
@@ -92,8 +103,8 @@ cleared X p (q ∷ ps) b h = pick (Ieee.lt (p .offset) X) refl (Ieee.lt (q .offs
 
     pick : (a : Bool) → Ieee.lt (p .offset) X ≡ a → (c : Bool) → Ieee.lt (q .offset) X ≡ c → (d : Bool) → Ieee.eq (q .offset) X ≡ d → (T (Ieee.le (q .offset) X) → Left (q ∷ ps) X) → Left (p ∷ q ∷ ps) X
     pick false a c k d m i = left-first X p (q ∷ ps) b (from-le X (p .offset) (q ∷ ps) (from-X (p .offset) (le-real-l (p .offset) X b) a) h) (from-first X p (q ∷ ps) a)
-    pick true a true k d m i = left-next X p (q ∷ ps) (from-next X p q ps a k) (i (lt→le (q .offset) X (of-true k)))
-    pick true a false k true m i = left-next X p (q ∷ ps) (from-at X p q ps a k m) (i (eq→le (q .offset) X (of-true m)))
+    pick true a true k d m i = let l = lt→le (q .offset) X (of-true k) in left-next X p q ps b l (from-next X p q ps a k) (i l)
+    pick true a false k true m i = let l = eq→le (q .offset) X (of-true m) in left-next X p q ps b l (from-at X p q ps a k m) (i l)
     pick true a false k false m i = left-first X p (q ∷ ps) b (from-X (q .offset) (le-real-r (p .offset) (q .offset) (h .0)) k, h .1) (from-last X p q ps a k m)
 
 -- ---- the laws
@@ -127,6 +138,10 @@ module _ (ps : List Point) (X : Float) (sorted : Sorted ps) (after : T (Ieee.le 
   clear-every O W o n =
       let d : Every O W (kept .q ∷ kept .rest) = subst (Every O W) (kept .from) (every-drop O W (kept .k) ps n) in
       rw (kept .left) (o, d .1, d .2)
+
+  -- A drop at X and then at Y, which is after X, is the drop at Y.
+  pub clear-again : (Y : Float) → T (Ieee.lt X Y) → clearPoints (clearPoints ps X) Y ≡ clearPoints ps Y
+  clear-again Y h = ap (λ (l : List Point). clearPoints l Y) (kept .left) ∙ kept .again Y h
 
 -- There are no more points than before, sorted or not.
 pub clear-count : (ps : List Point) (X : Float) → length (clearPoints ps X) ≤ length ps
