@@ -30,7 +30,7 @@ use Rattle.book.specs.Good.{GoodLinks}
 use Rattle.book.specs.Demand.{TableF64}
 use Rattle.book.proofs.Matching.{Matched, Begun, Grounded}
 use Rattle.book.proofs.Laying.{stands, joined-ends, join-begun}
-use Rattle.book.proofs.Lasts.{total-append}
+use Rattle.path.proofs.Lasts.{total-append}
 
 -- the records that the first links count, and those of the next ones
 total-add : (count : LinkPoint → ℕ) (d k : ℕ) (ps : List LinkPoint) → total count (take (d + k) ps) ≡ total count (take d ps) + total count (take k (drop d ps))

@@ -17,8 +17,8 @@ use Rattle.link.proofs.Known.{and-both}
 use Rattle.path.specs.Records.{lastCoeff}
 use Rattle.path_stretches.specs.declared.stretch.Stretch.{Stretch}
 use Rattle.path_stretches.specs.Stretches.{gradeStretch, radpm, curvatureOf, turnFinite, curveWork, curveStretch, stretchStep, stretchesFrom, stretches, isFinite, withCoefficient, layStretch, layStretches}
-use Rattle.book.proofs.Written.{valuesFinite}
-use Rattle.book.proofs.Lasts.{every-append, every-set, every-last, wholeFinite}
+use Rattle.path.proofs.Written.{valuesFinite}
+use Rattle.path.proofs.Lasts.{every-append, every-set, every-last, wholeFinite}
 
 -- ---- what is finite in a stretch
 

@@ -33,7 +33,7 @@ use Rattle.book.specs.Book.{Book, lastEnd, enterLink}
 use Rattle.book.specs.Demand.{TableF64}
 use Rattle.book.proofs.Matching.{Begun}
 use Rattle.book.proofs.Ending.{records-many, records-end}
-use Rattle.book.proofs.Lasts.{total-append}
+use Rattle.path.proofs.Lasts.{total-append}
 
 -- ---- where records stand
 

@@ -15,8 +15,6 @@ pub mod Settled
 pub mod Ending
 pub mod Laying
 pub mod Grounding
-pub mod Written
-pub mod Lasts
 pub mod Staying
 pub mod StayTrimmed
 pub mod StayRenumbered

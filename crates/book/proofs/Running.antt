@@ -31,7 +31,7 @@ use Rattle.book.proofs.Entering.{joined-matched}
 use Rattle.book.proofs.Leaving.{clear-matched, reindex-matched, finish-matched, new-matched}
 use Rattle.book.proofs.Settled.{extend-good, clear-good}
 use Rattle.book.proofs.Grounding.{new-grounded, joined-grounded, clear-grounded, reindex-grounded, finish-grounded}
-use Rattle.book.proofs.Staying.{Stays, before}
+use Rattle.path.proofs.Standing.{Stays, before}
 use Rattle.book.proofs.StayTrimmed.{stays-new, stays-finish, stays-clear}
 use Rattle.book.proofs.StayRenumbered.{stays-reindex}
 use Rattle.book.proofs.StayJoined.{stays-extend}

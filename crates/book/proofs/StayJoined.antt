@@ -47,10 +47,11 @@ use Rattle.path_extend.specs.Extend.{recordsFit, followed, sumsAnswer, extendAn
 use Rattle.book.specs.Book.{Book}
 use Rattle.book.specs.Claims.{Claims}
 use Rattle.book.proofs.Matching.{Matched, Grounded}
-use Rattle.book.proofs.Written.{valuesFinite, recordsFinite, powerNumbers}
-use Rattle.book.proofs.Lasts.{last-more, every-append, every-take, every-set, every-last, total-append, real-many, wholeFinite, open-finite}
+use Rattle.path.proofs.Written.{valuesFinite, recordsFinite, powerNumbers}
+use Rattle.path.proofs.Lasts.{last-more, every-append, every-take, every-set, every-last, total-append, real-many, wholeFinite, open-finite}
 use Rattle.book.proofs.LaidStretches.{stretches-lay, finite-laid}
-use Rattle.book.proofs.Staying.{Own, Stays, stays, NoMore, fewer-within, Before, before}
+use Rattle.path.proofs.Standing.{Own, Stays, NoMore, fewer-within, Before, before}
+use Rattle.book.proofs.Staying.{stays}
 use Rattle.path_extend.proofs.Fronts.{front-join}
 use Rattle.path_stretches.proofs.Ended.{length-laid, length-stretches}
 

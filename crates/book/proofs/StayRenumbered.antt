@@ -19,8 +19,9 @@ use Rattle.path_links.specs.Reindex.{newNumber, renumbers, withNumber, renumber
 use Rattle.book.specs.Book.{Book}
 use Rattle.book.specs.Claims.{Claims}
 use Rattle.book.proofs.Matching.{Matched, Grounded}
-use Rattle.book.proofs.Lasts.{real-many}
-use Rattle.book.proofs.Staying.{Own, Stays, stays, NoMore, fewer-within, before}
+use Rattle.path.proofs.Lasts.{real-many}
+use Rattle.path.proofs.Standing.{Own, Stays, NoMore, fewer-within, before}
+use Rattle.book.proofs.Staying.{stays}
 use Rattle.path_links.proofs.Renumbered.{length-renumbered}
 
 -- ---- a count that the number does not change

@@ -34,9 +34,10 @@ use Rattle.path_trim.specs.Clear.{countBefore, dropCount, withoutLinks, cleared
 use Rattle.book.specs.Book.{Book}
 use Rattle.book.specs.Claims.{Claims}
 use Rattle.book.proofs.Matching.{Matched, Grounded}
-use Rattle.book.proofs.Written.{recordsFinite}
-use Rattle.book.proofs.Lasts.{last-next, last-more, from-end, every-drop, every-last, total-split, wholeFinite, open-finite, close-finite, drop-finite, drop-powers}
-use Rattle.book.proofs.Staying.{Own, Stays, spare-some, stays, NoMore, fewer-within, Before, before}
+use Rattle.path.proofs.Written.{recordsFinite}
+use Rattle.path.proofs.Lasts.{last-next, last-more, from-end, every-drop, every-last, total-split, wholeFinite, open-finite, close-finite, drop-finite, drop-powers}
+use Rattle.path.proofs.Standing.{Own, Stays, spare-some, NoMore, fewer-within, Before, before}
+use Rattle.book.proofs.Staying.{stays}
 
 -- ---- new
 

@@ -9,3 +9,6 @@ pub mod Ordered
 pub mod PastCounts
 pub mod ReadBack
 pub mod Tidied
+pub mod Written
+pub mod Lasts
+pub mod Standing

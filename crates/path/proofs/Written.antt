@@ -1,16 +1,15 @@
--- A path written to its columns: it fits, it is sound and it is finite as its lists are.
+-- A path written to its columns: it is sound and finite as its lists are.
 use Prim.Native.Nat.{ℕ, suc, _*_, _≤_}
 use native.Mathlib.Omega.{arith}
 use mathlib.Core.Path.{_≡_, refl, sym, ap, ap₂, _∙_}
 use mathlib.Core.Bool.{Bool, true, false, _&&_, and-true}
 use mathlib.Core.List.{List, [], _∷_, _++_, map}
-use lib.ListN.{length, take, drop, length-map, take-append-drop}
+use lib.ListN.{length, take, drop, take-append-drop}
 use lib.Ieee.{Float}
 use lib.Ieee.Scale.{finite}
-use Rattle.ieee.specs.Number.{+0, allFinite}
-use Rattle.column.specs.Records.{flat, three, four}
-use Rattle.column.proofs.Filling.{length-filled}
-use Rattle.column.proofs.Bridge.{three-lawful, four-lawful, length-records, length-flat, flat-records}
+use Rattle.ieee.specs.Number.{allFinite}
+use Rattle.column.specs.Records.{flat, three}
+use Rattle.column.proofs.Bridge.{three-lawful, length-records, flat-records}
 use Rattle.speed.specs.Points.{Point}
 use Rattle.speed.specs.Column.{pair}
 use Rattle.speed.proofs.Held.{pair-lawful}
@@ -19,11 +18,12 @@ use Rattle.lookup.specs.Coeff.{triple, coeffs, standsAt, coefficientOf, netOf, 
 use Rattle.lookup.proofs.Coeffs.{triple-lawful}
 use Rattle.link.specs.Table.{PowerLimit}
 use Rattle.link.proofs.Known.{and-both}
 use Rattle.path.specs.declared.path_tpc.PathTpc.{PathTpc}
-use Rattle.path.specs.Records.{Columns, offsetOf, fourOf, threeOf, Path, pathOf, columnsOf, recordOf}
+use Rattle.path.specs.Records.{Columns, offsetOf, threeOf, Path, pathOf, columnsOf, recordOf}
 use Rattle.path.specs.Sound.{pathFinite, oneOfEach, withinBounds, soundPath, sound}
 use Rattle.path.proofs.ReadBack.{read-back, Within, link-offsets, power-threes}
 use Rattle.path.proofs.Clauses.{room, sound-more}
+use Rattle.path.proofs.Tidied.{written-within}
 
 -- ---- a path whose numbers are finite
 
@@ -129,24 +129,8 @@ read-finite p c e h = finite-from p c (room p c h) e
 -- ---- what is written
 
 module _ (c : Columns) (after : Path) (h : withinBounds (recordOf after) c ≡ true) where
-  pub written-within : withinBounds (recordOf after) (columnsOf c after) ≡ true
-  unfolding withinBounds columnsOf recordOf
-  written-within =
-      let w = room (recordOf after) c h in
-      let links = after .links in
-      let powers = after .powers in
-      rw (
-        length-filled +0 (length (c .offsets)) (map offsetOf links) (omega (arith, w .offsets, length-map links offsetOf)),
-        length-filled 0 (length (c .numbers)) (flat four (map fourOf links)) (omega (arith, w .numbers, length-flat four four-lawful (map fourOf links), length-map links fourOf)),
-        length-filled +0 (length (c .grades)) (flat triple (after .grades)) (omega (arith, w .grades, length-flat triple triple-lawful (after .grades))),
-        length-filled +0 (length (c .curves)) (flat triple (after .curves)) (omega (arith, w .curves, length-flat triple triple-lawful (after .curves))),
-        length-filled +0 (length (c .speeds)) (flat pair (after .speeds)) (omega (arith, w .speeds, length-flat pair pair-lawful (after .speeds))),
-        length-filled +0 (length (c .powers)) (flat three (map threeOf powers)) (omega (arith, w .powers, length-flat three three-lawful (map threeOf powers), length-map powers threeOf)),
-        length-filled 0 (length (c .districts)) (map (λ p. p .district) powers) (omega (arith, w .districts, length-map powers (λ (p : PowerLimit). p .district))),
-      ) h
-
   pub written-sound : oneOfEach (recordOf after) ≡ true → soundPath after ≡ true → sound (recordOf after) (columnsOf c after) ≡ true
-  written-sound one e = sound-more (recordOf after) (columnsOf c after) one written-within ∙ ap soundPath (read-back c after) ∙ e
+  written-sound one e = sound-more (recordOf after) (columnsOf c after) one (written-within c after h) ∙ ap soundPath (read-back c after) ∙ e
 
   pub written-finite : FinitePath after → pathFinite (recordOf after) (columnsOf c after) ≡ true
-  written-finite f = finite-to (recordOf after) (columnsOf c after) (room (recordOf after) (columnsOf c after) written-within) (rw (read-back c after) f)
+  written-finite f = finite-to (recordOf after) (columnsOf c after) (room (recordOf after) (columnsOf c after) (written-within c after h)) (rw (read-back c after) f)

@@ -16,10 +16,10 @@ use Rattle.lookup.specs.Coeff.{standsAt, closesWell}
 use Rattle.link.specs.Lists.{every}
 use Rattle.link.specs.Table.{PowerLimit}
 use Rattle.link.proofs.Known.{and-both}
 use Rattle.path.specs.declared.link_point.LinkPoint.{LinkPoint}
 use Rattle.path.specs.Records.{numberOf, linkPointAt}
 use Rattle.path.specs.Sound.{total, allNumbered, numbersReal}
-use Rattle.book.proofs.Written.{valuesFinite, recordsFinite, powerNumbers}
+use Rattle.path.proofs.Written.{valuesFinite, recordsFinite, powerNumbers}
 
 -- ---- the last of a list
 module _ {A : Type 0} (d : A) where
