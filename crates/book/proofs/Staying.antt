@@ -29,8 +29,7 @@ use Rattle.path.specs.Records.{Columns, offsetOf, gradeCount, curveCount, power
 use Rattle.path.specs.Sound.{oneOfEach, withinBounds, total, spare, endCountsZero, riseFrom, offsetsRise, linksSound, standsThere, countOf, firstAtOffset, soundPath, sound}
 use Rattle.path.proofs.Counts.{total-next}
 use Rattle.path.proofs.Standing.{Own, Stays, in-order-from, points-some, add-up, spare-some, one-each}
-use Rattle.speed_laws.specs.Words.{Every, Finite}
-use Rattle.column.specs.Records.{flat}
+use Rattle.path_trims.proofs.Rising.{points-finite}
 use Rattle.book.specs.Book.{Book, firstEnd}
 use Rattle.book.specs.Claims.{Offset, Offsets, RisingFrom, Rising, Claims}
 use Rattle.book.proofs.Matching.{Matched, Begun, Grounded}
@@ -59,13 +58,6 @@ rises : (ps : List LinkPoint) → Rising (map offsetOf ps) → offsetsRise ps �
 unfolding offsetsRise
 rises [] h = refl
 rises (p ∷ ps) h = rise-from (offsetOf p) ps h
-
--- ---- from the book's points
-
-points-finite : (ps : List Point) → Every Offset Finite ps → allFinite (pointNumbers ps) ≡ true
-unfolding allFinite flat
-points-finite [] h = refl
-points-finite (p ∷ ps) h = ap₂ _&&_ (is-true (finite (p .offset)) (h .0 .is-finite)) (ap₂ _&&_ (is-true (finite (p .speed)) (h .1)) (points-finite ps (h .2)))
 
 -- ---- each link's first record
 
@@ -163,7 +155,7 @@ module _ (train : TrainParams) (b : Book) (after : Path) (claims : Claims train 
         offsets = ap allFinite (matched .links) ∙ ends-finite (b .ends) (claims .ends-good);
         grades = own .grades-finite;
         curves = own .curves-finite;
-        speeds = ap (λ (l : List Point). allFinite (pointNumbers l)) (matched .points) ∙ points-finite (b .points) (claims .points-good);
+        speeds = ap (λ (l : List Point). allFinite (pointNumbers l)) (matched .points) ∙ points-finite Offset (λ o g. g .is-finite) (b .points) (claims .points-good);
         powers = own .powers-finite;
       }
 

@@ -50,6 +50,16 @@ module _ (os : List Float) (ns : List ℕ) where
   pub links-all : (n : ℕ) → linksFrom n 0 ≡ linkPoints n os ns
   links-all n = ap (λ (k : ℕ). linkPoints k os ns) (sub-zero n)
 
+  -- the points without the first d
+  pub links-drop : (n d : ℕ) → d ≤ n → drop d (linkPoints n os ns) ≡ linksFrom n d
+  links-drop n zero h = sym (links-all n)
+  links-drop n (suc d) h =
+      let e : suc d ≡ d + 1 = omega arith in
+      ap (λ (k : ℕ). drop k (linkPoints n os ns)) e
+      ∙ sym (drop-drop 1 d (linkPoints n os ns))
+      ∙ ap (drop 1) (links-drop n d (omega arith) ∙ links-more n d (omega arith))
+      ∙ ap (linksFrom n) (sym e)
+
   -- the points from i on, where p is point i
   pub links-next : (n i : ℕ) {p : LinkPoint} → i < n → p ≡ pointAt os ns i → linksFrom n i ≡ p ∷ linksFrom n (i + 1)
   links-next n i h e = links-more n i h ∙ ap (λ (q : LinkPoint). q ∷ linksFrom n (i + 1)) (sym e)

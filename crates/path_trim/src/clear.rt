@@ -128,7 +128,7 @@ fn cut(
 }
 
 // The change that `clear` makes once its questions are answered.
-fn cleared(
+pub fn cleared(
     p: PathTpc,
     d: usize,
     dropped: LinkPoint,

@@ -1,0 +1,3 @@
+-- Definitions of the crate path_trims.
+pub mod Going
+pub mod Trims
