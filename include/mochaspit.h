@@ -187,6 +187,13 @@ typedef struct mochaspit_clear_answer {
     mochaspit_link_point dropped;
 } mochaspit_clear_answer;
 
+/* What mochaspit_clear_each answers: the outcome of the last trim made, the counts of all links that went, and how many trims were done. */
+typedef struct mochaspit_trims_answer {
+    mochaspit_path_answer outcome;
+    mochaspit_link_point dropped;
+    size_t count;
+} mochaspit_trims_answer;
+
 /* A train: length, top speed, masses, curve coefficients, axles, and the code of its type. */
 typedef struct mochaspit_train {
     double length;
@@ -341,6 +348,23 @@ mochaspit_path_answer mochaspit_extend(
 mochaspit_clear_answer mochaspit_clear(
     mochaspit_path_tpc path,
     double offset,
+    double *offsets, size_t offsets_len,
+    uint32_t *numbers, size_t numbers_len,
+    double *grades, size_t grades_len,
+    double *curves, size_t curves_len,
+    double *speeds, size_t speeds_len,
+    double *powers, size_t powers_len,
+    uint32_t *districts, size_t districts_len);
+
+/*
+ * Drops the links behind each offset of a list in turn: what mochaspit_clear does, called for one offset after another, each on the path as the one
+ * before left it. The first refusal ends the list. Questions 1 and 2 of the path are asked once, and the records move once.
+ * Comes back: the answer of the last trim made, done where all are, with the record after those that are done; in dropped all that went; in count how many
+ * were done. An empty list asks nothing and changes nothing.
+ */
+mochaspit_trims_answer mochaspit_clear_each(
+    mochaspit_path_tpc path,
+    const double *xs, size_t xs_len,
     double *offsets, size_t offsets_len,
     uint32_t *numbers, size_t numbers_len,
     double *grades, size_t grades_len,

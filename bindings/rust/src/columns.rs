@@ -117,6 +117,10 @@ impl Columns {
         call!(mochaspit_clear(path, offset) writes self)
     }
 
+    pub fn clear_each(&mut self, path: sys::PathTpc, offsets: &[f64]) -> sys::TrimsAnswer {
+        call!(mochaspit_clear_each(path, offsets.as_ptr(), offsets.len()) writes self)
+    }
+
     pub fn finish(&mut self, path: sys::PathTpc) -> sys::PathAnswer {
         call!(mochaspit_finish(path) writes self)
     }

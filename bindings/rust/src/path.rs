@@ -77,6 +77,23 @@ impl Path {
         })
     }
 
+    /// Drops the links behind each of these offsets in turn, as so many calls of [`Path::clear`] would; the path is judged once, and its records move once.
+    ///
+    /// Answers what was dropped in all, how many of the offsets were done, and the refusal that ended the list, if one did.
+    pub fn clear_each(&mut self, offsets: &[f64]) -> (Dropped, usize, Result<(), Refusal>) {
+        let before = self.record.link_count;
+        let done = self.columns.clear_each(self.record, offsets);
+        self.record = done.outcome.path;
+        let dropped = Dropped {
+            links: before - self.record.link_count,
+            grades: done.dropped.grade_count,
+            curves: done.dropped.curve_count,
+            power_limits: done.dropped.cat_power_count,
+        };
+        let ended = self.take(done.outcome);
+        (dropped, done.count, ended)
+    }
+
     /// Closes the path with a grade and a curve record at +infinity. Refused with 3 and 9.
     pub fn finish(&mut self) -> Result<(), Refusal> {
         let done = self.columns.finish(self.record);

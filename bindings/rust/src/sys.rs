@@ -44,6 +44,14 @@ pub struct ClearAnswer {
 
 #[repr(C)]
 #[derive(Clone, Copy, Debug, Default)]
+pub struct TrimsAnswer {
+    pub outcome: PathAnswer,
+    pub dropped: LinkPoint,
+    pub count: usize,
+}
+
+#[repr(C)]
+#[derive(Clone, Copy, Debug, Default)]
 pub struct Train {
     pub length: f64,
     pub speed_max: f64,
@@ -204,6 +212,7 @@ macro_rules! path_call {
 path_call!(mochaspit_new(train: Train) writes -> PathAnswer);
 path_call!(mochaspit_finish(path: PathTpc) writes -> PathAnswer);
 path_call!(mochaspit_clear(path: PathTpc, offset: f64) writes -> ClearAnswer);
+path_call!(mochaspit_clear_each(path: PathTpc, xs: *const f64, xs_len: usize) writes -> TrimsAnswer);
 path_call!(mochaspit_reindex(path: PathTpc, new: *const u32, new_len: usize) writes -> PathAnswer);
 path_call!(mochaspit_extend(path: PathTpc, train: Train, list: *const u32, list_len: usize) writes from table -> PathAnswer);
 path_call!(mochaspit_recalc_speeds(path: PathTpc, train: Train) writes from table -> PathAnswer);

@@ -75,6 +75,24 @@ fn power_limits_move_and_go_with_their_link() {
 }
 
 #[test]
+fn a_list_of_trims_is_so_many_trims() {
+    let limited = two_links(&[(50.0, 200.0, 20.0)]);
+    let mut one_by_one = path_of(&limited, &[1, 2]);
+    let mut in_one = one_by_one.clone();
+    one_by_one.clear(60.0).unwrap();
+    let last = one_by_one.clear(120.0).unwrap();
+    let (dropped, count, ended) = in_one.clear_each(&[60.0, 120.0]);
+    assert_eq!((dropped, count, ended), (last, 2, Ok(())));
+    assert_eq!(in_one, one_by_one);
+    assert_eq!(speeds(&in_one)[0], (100.0, 20.0));
+    let (dropped, count, ended) = in_one.clear_each(&[130.0, 99.0, 140.0]);
+    assert_eq!((dropped.links, count, ended.unwrap_err().number), (0, 1, 10));
+    assert_eq!(in_one, one_by_one);
+    assert_eq!(in_one.clear_each(&[]).1, 0);
+    assert_eq!(in_one, one_by_one);
+}
+
+#[test]
 fn a_path_without_links_and_a_finished_one() {
     let mut path = Path::new(&train()).unwrap();
     assert_eq!(path.link_points().collect::<Vec<_>>(), [LinkPoint::default()]);

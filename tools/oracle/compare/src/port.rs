@@ -43,6 +43,9 @@ pub fn finish(path: PathTpc, c: &mut Cols) -> PathAnswer {
 pub fn clear(path: PathTpc, offset: f64, c: &mut Cols) -> ClearAnswer {
     with_columns!(mochaspit_clear, c, lent, path, offset)
 }
+pub fn clear_each(path: PathTpc, xs: &[f64], c: &mut Cols) -> TrimsAnswer {
+    with_columns!(mochaspit_clear_each, c, lent, path, xs.as_ptr(), xs.len())
+}
 pub fn reindex(path: PathTpc, new: &[u32], c: &mut Cols) -> PathAnswer {
     with_columns!(mochaspit_reindex, c, lent, path, new.as_ptr(), new.len())
 }
@@ -113,7 +116,12 @@ pub fn path_call(call: &Call, path: PathTpc, t: Train, c: &mut Cols, f: &Flat) -
         Call::New => plain(new(t, c)),
         Call::Extend(l) => plain(extend(path, t, l, c, f)),
         Call::Clear(x) => {
+            let mut each = c.clone();
+            let twice = clear_each(path, &[*x, *x], &mut each);
             let a = clear(path, *x, c);
+            // a second trim at the same offset drops nothing more
+            assert!(each.differ(c).is_empty() && twice.outcome.path == a.outcome.path, "a list of trims differs");
+            assert_eq!((twice.outcome.answer.number, twice.count), (a.outcome.answer.number, if a.outcome.answer.number == 0 { 2 } else { 0 }));
             let (mut v, p) = plain(a.outcome);
             let d = a.dropped;
             v.extend([d.offset.to_bits(), d.grade_count as u64, d.curve_count as u64, d.cat_power_count as u64, d.link_idx as u64]);

@@ -42,6 +42,35 @@ fn beside(name: &str, each: Duration, pass: Duration) {
     println!("  {name:76} {:>11} {:>11} {ratio:>9.2}", text(pass), text(each));
 }
 
+/// A path of 1,000 links in columns of the size that it needs.
+fn fitted_path() -> State {
+    let mut s = fitted(1000);
+    let list: Vec<u32> = (1..=1000).collect();
+    s.path = port::extend(s.path, train(), &list, &mut s.cols, &ring(1000).flat).path;
+    s
+}
+
+/// The trims of such a path, call by call.
+fn trims_alone(trims: &[f64]) -> Duration {
+    best(9, fitted_path, |s| trims.iter().for_each(|x| s.path = port::clear(s.path, *x, &mut s.cols).outcome.path))
+}
+
+/// One pass over the records that each of the trims leaves: what their question 1 reads at the least.
+fn passes(trims: &[f64]) -> Duration {
+    let one = |_| {
+        let mut s = fitted_path();
+        let mut sum = Duration::ZERO;
+        for x in trims {
+            let start = Instant::now();
+            black_box(pass(black_box(&used(&s.path, &s.cols))));
+            sum += start.elapsed();
+            s.path = port::clear(s.path, *x, &mut s.cols).outcome.path;
+        }
+        sum
+    };
+    (0..9).map(one).min().unwrap()
+}
+
 /// `new`, one extension by 1,000 links, 1,000 trims by one link each, `finish`.
 fn plan() {
     let table = ring(1000);
@@ -65,13 +94,26 @@ fn plan() {
         assert_eq!(a.answer.number, 0);
         s.path = a.path;
     };
+    let in_one = |s: &mut State| {
+        s.path = port::new(t, &mut s.cols).path;
+        s.path = port::extend(s.path, t, &list, &mut s.cols, &table.flat).path;
+        let a = port::clear_each(s.path, &trims, &mut s.cols);
+        assert_eq!((a.outcome.answer.number, a.count), (0, trims.len()));
+        s.path = port::finish(a.outcome.path, &mut s.cols).path;
+    };
     let mut s = empty();
     theirs(&mut s);
     ours(&mut s);
     same(&s);
+    let mut s = empty();
+    theirs(&mut s);
+    in_one(&mut s);
+    same(&s);
     let original = best(9, empty, theirs);
     line("plan: new, extend by 1,000 links, 1,000 trims, finish", original, best(9, empty, ours));
     line("  the same plan with columns of the size that it needs", original, best(9, || fitted(1000), ours));
+    line("  the same plan with the trims as one call", original, best(25, empty, in_one));
+    beside("those 1,000 trims call by call (right) beside 1,000 passes over what they leave (left)", trims_alone(&trims), passes(&trims));
     let joined = || extended(&table, &list);
     let theirs = |s: &mut State| s.original.clear(LINK * 1.5 * uc::M).unwrap();
     let trim = best(25, joined, |s| port::clear(s.path, LINK * 1.5, &mut s.cols));
