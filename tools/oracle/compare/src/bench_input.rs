@@ -122,6 +122,11 @@ pub fn used<'a>(p: &PathTpc, c: &'a Cols) -> [&'a [f64]; 5] {
     ]
 }
 
+/// The f64 columns of a table.
+pub fn numbers(f: &Flat) -> [&[f64]; 6] {
+    [&f.lengths, &f.elevs, &f.headings, &f.limits, &f.values, &f.pool]
+}
+
 /// The f64 columns of a path to their ends, records or not.
 pub fn whole(c: &Cols) -> [&[f64]; 5] {
     [&c.offsets, &c.grades, &c.curves, &c.speeds, &c.powers]

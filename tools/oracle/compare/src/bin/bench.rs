@@ -1,4 +1,4 @@
-//! `bench`: the original and the port on the same inputs in one process; for each line the best time of several runs of each, and the ratio.
+//! `bench [PART]`: the original and the port on the same inputs in one process; for each line the best time of several runs of each, and the ratio.
 use altrios_core::lin_search_hint::Dir;
 use altrios_core::train::kind::path_res;
 use altrios_core::train::set_link_and_offset;
@@ -122,7 +122,10 @@ fn plan() {
     beside("that trim (right) beside one pass over the columns to their ends (left)", trim, best(25, || (), |_| pass(&whole(&s.cols))));
     let theirs = |s: &mut State| s.original.recalc_speeds(&table.net).unwrap();
     let ours = |s: &mut State| port::recalc_speeds(s.path, t, &mut s.cols, &table.flat);
-    line("  recalc_speeds of that path, 2,000 limits laid", best(9, joined, theirs), best(9, joined, ours));
+    let time = best(9, joined, ours);
+    line("  recalc_speeds of that path, 2,000 limits laid", best(9, joined, theirs), time);
+    let read = [&whole(&s.cols)[..], &numbers(&table.flat)].concat();
+    beside("that recalculation (right) beside one pass over columns and table (left)", time, best(25, || (), |_| pass(&read)));
 }
 
 /// 1,000 extensions by one link each.
@@ -287,20 +290,34 @@ fn growth() {
         let theirs = |s: &mut State| s.original.extend(&table.net, &links).unwrap();
         let ours = |s: &mut State| port::extend(s.path, train(), &list, &mut s.cols, &table.flat);
         extended(&table, &list);
-        line(&format!("growth: one extension of an empty path by {n} links"), best(25, empty, theirs), best(25, empty, ours));
+        let time = best(25, empty, ours);
+        line(&format!("growth: one extension of an empty path by {n} links"), best(25, empty, theirs), time);
+        if n == 1000 {
+            let s = extended(&table, &list);
+            let read = [&whole(&s.cols)[..], &numbers(&table.flat)].concat();
+            beside("that extension (right) beside one pass over columns and table (left)", time, best(25, || (), |_| pass(&read)));
+        }
     }
 }
 
 fn main() {
+    let only = std::env::args().nth(1);
     println!(
         "columns of the port: 1,025 link points, 16,384 grades and curves, 4,096 speed points, zeros before each run; best of several runs"
     );
     println!("{:78} {:>11} {:>11} {:>9}", "", "original", "port", "ratio");
-    plan();
-    link_by_link();
-    limits();
-    strap();
-    strap_walk_in_one();
-    positions();
-    growth();
+    let parts: [(&str, fn()); 7] = [
+        ("plan", plan),
+        ("links", link_by_link),
+        ("limits", limits),
+        ("strap", strap),
+        ("walk", strap_walk_in_one),
+        ("positions", positions),
+        ("growth", growth),
+    ];
+    for (name, part) in parts {
+        if only.as_deref().is_none_or(|x| x == name) {
+            part();
+        }
+    }
 }
