@@ -1,6 +1,7 @@
 // A walk of many lookups in one list: every number of the list is asked once, by `mochaspit_list_answer`; each step asks only question 2 again.
 use crate::codes::DirCode;
 use crate::codes::dir_of;
+use lookup::calc_idx::list_sound;
 use lookup::lin_search_hint::Dir;
 use path::answer::asked;
 use path::path_tpc::Answer;
@@ -14,7 +15,6 @@ use si::Length;
 use train::train_state::TrainState;
 ghost use mathlib.Core.Path.{_≡_};
 ghost use mathlib.Core.Bool.{true, false};
-ghost use Rattle.lookup.specs.CalcIdx.{listSound};
 ghost use Rattle.path.specs.Answers.{ask};
 ghost use Rattle.resistance.specs.Listed.{listAnswer};
 ghost use Rattle.resistance.specs.Strap.{refusedRes};
@@ -29,25 +29,12 @@ pub extern "C" fn mochaspit_list_answer(col: &[f64], n: usize) -> Answer
     resistance::listed::list_answer(col, n, true)
 }
 
-// Question 2 of a list: it is not empty, and the column holds its records.
-fn list_holds(col: &[f64], n: usize) -> bool
-    ensures { λ r. ⌜ r ≡ listSound n (now (col .entry)) ⌝ }
-{
-    if n == 0 {
-        return false;
-    }
-    if col.len() / 3 < n {
-        return false;
-    }
-    true
-}
-
 // `Strap::new` behind question 2 alone.
 #[no_mangle]
 pub extern "C" fn mochaspit_strap_new_known(col: &[f64], n: usize, state: TrainState) -> StrapAnswer
     ensures { λ r. ⌜ r ≡ newHeld state n (now (col .entry)) ⌝ }
 {
-    if list_holds(col, n) {
+    if list_sound(col, n) {
         return resistance::strap::new_known(col, n, state);
     }
     StrapAnswer {
@@ -63,7 +50,7 @@ pub extern "C" fn mochaspit_strap_new_known(col: &[f64], n: usize, state: TrainS
 fn calc_res_held(strap: Strap, col: &[f64], n: usize, state: TrainState, dir: Dir) -> StrapRes
     ensures { λ r. ⌜ r ≡ calcResHeld dir strap state n (now (col .entry)) ⌝ }
 {
-    if list_holds(col, n) {
+    if list_sound(col, n) {
         return resistance::strap::calc_res_known(strap, col, n, state, dir);
     }
     StrapRes {
@@ -85,7 +72,7 @@ fn walk_held(
 ) -> Walked
     ensures { λ r. ⌜ r ≡ walkHeld dir (step .0) count strap state n (now (col .entry)) ⌝ }
 {
-    if list_holds(col, n) {
+    if list_sound(col, n) {
         return walk_known(strap, col, n, state, dir, step, count);
     }
     Walked {

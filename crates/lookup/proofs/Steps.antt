@@ -131,14 +131,10 @@ module _ (dir : Dir) (x : Float) (hint n : ℕ) (c : List Float) where
   unfolding calcIdx
   asks-numbers t u = rw (t, u)
 
-  pub asks-some : finite x ≡ true → coeffsFinite true n c ≡ true → n ≡ 0 → calcIdx dir x hint n c ≡ refused 2
+  pub asks-sound : finite x ≡ true → coeffsFinite true n c ≡ true → listSound n c ≡ false → calcIdx dir x hint n c ≡ refused 2
   unfolding calcIdx
-  asks-some t u e = rw (t, u, sound-none n c e)
+  asks-sound t u h = rw (t, u, h)
 
-  pub asks-room : finite x ≡ true → coeffsFinite true n c ≡ true → 0 < n → length c < 3 * n → calcIdx dir x hint n c ≡ refused 2
+  pub asks-search : finite x ≡ true → coeffsFinite true n c ≡ true → listSound n c ≡ true → calcIdx dir x hint n c ≡ findIn dir x hint (coeffs n c)
   unfolding calcIdx
-  asks-room t u h g = rw (t, u, sound-short n c h g)
-
-  pub asks-search : finite x ≡ true → coeffsFinite true n c ≡ true → 0 < n → 3 * n ≤ length c → calcIdx dir x hint n c ≡ findIn dir x hint (coeffs n c)
-  unfolding calcIdx
-  asks-search t u h g = rw (t, u, sound-held n c h g)
+  asks-search t u h = rw (t, u, h)

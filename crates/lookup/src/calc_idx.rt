@@ -5,7 +5,20 @@ use crate::path_res_coeff::coeffs_finite;
 use crate::search::find;
 use si::Length;
 ghost use mathlib.Core.Path.{_≡_};
-ghost use Rattle.lookup.specs.CalcIdx.{indexed, calcIdx};
+ghost use Rattle.lookup.specs.CalcIdx.{indexed, listSound, calcIdx};
+
+// Question 2 of a list searched alone: it is not empty, and the column holds its records.
+pub fn list_sound(col: &[f64], n: usize) -> bool
+    ensures { λ r. ⌜ r ≡ listSound n (now (col .entry)) ⌝ }
+{
+    if n == 0 {
+        return false;
+    }
+    if col.len() / 3 < n {
+        return false;
+    }
+    true
+}
 
 // Questions 1, 2, 10 and 11 in this order, and then the index of the record.
 pub fn calc_idx(col: &[f64], n: usize, offset: Length, hint: usize, dir: Dir) -> Found
@@ -17,10 +30,7 @@ pub fn calc_idx(col: &[f64], n: usize, offset: Length, hint: usize, dir: Dir) ->
     if !coeffs_finite(col, n, true) {
         return Found::NotFinite;
     }
-    if n == 0 {
-        return Found::NotSound;
-    }
-    if col.len() / 3 < n {
+    if !list_sound(col, n) {
         return Found::NotSound;
     }
     find(col, n, offset, hint, dir)

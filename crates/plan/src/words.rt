@@ -1,16 +1,27 @@
 // Answers, refusals and faults of a route file in words.
 use path::path_tpc::Answer;
+use route::judge::BAD_FIELD;
+use route::judge::BAD_WORD;
+use route::judge::LINK_NUMBER;
+use route::judge::NO_LINK;
+use route::judge::NO_ROOM;
+use route::judge::NO_SET;
+use route::judge::SECOND_SET;
+use route::judge::SECOND_TRAIN;
 use route::judge::Seen;
 use route::kinds::CLEAR;
 use route::kinds::CURVES;
 use route::kinds::ELEV;
 use route::kinds::EXTEND;
+use route::kinds::FINISH;
 use route::kinds::GRADES;
 use route::kinds::HEADING;
 use route::kinds::LINK;
 use route::kinds::LOCATE;
 use route::kinds::NEW;
 use route::kinds::POWER;
+use route::kinds::POWERS;
+use route::kinds::RECALCULATE;
 use route::kinds::REINDEX;
 use route::kinds::RESISTANCE;
 use route::kinds::SET;
@@ -72,17 +83,17 @@ pub fn told(line: usize, a: Answer) {
 // The word of a call.
 pub fn call_name(kind: u32) {
     match kind {
-        9 => say(b"new"),
-        10 => say(b"extend"),
-        11 => say(b"clear"),
-        12 => say(b"finish"),
-        13 => say(b"recalculate"),
-        14 => say(b"reindex"),
-        15 => say(b"locate"),
-        16 => say(b"resistance"),
-        17 => say(b"grades"),
-        18 => say(b"curves"),
-        19 => say(b"powers"),
+        NEW => say(b"new"),
+        EXTEND => say(b"extend"),
+        CLEAR => say(b"clear"),
+        FINISH => say(b"finish"),
+        RECALCULATE => say(b"recalculate"),
+        REINDEX => say(b"reindex"),
+        LOCATE => say(b"locate"),
+        RESISTANCE => say(b"resistance"),
+        GRADES => say(b"grades"),
+        CURVES => say(b"curves"),
+        POWERS => say(b"powers"),
         _ => say(b"show"),
     }
 }
@@ -151,24 +162,24 @@ fn form(kind: u32) {
 fn expected(s: Seen) {
     let fault = s.fault;
     match fault {
-        1 => {
+        BAD_FIELD => {
             say(b"field ");
             plain(s.field);
             say(b" is missing, too much, or cannot be read; expected: ");
             form(s.kind);
         }
-        2 => say(
+        BAD_WORD => say(
             b"unknown word; expected: train, link, elev, heading, power, set, when, limit, or a call",
         ),
-        3 => say(b"expected: one train only"),
-        4 => {
+        SECOND_TRAIN => say(b"expected: one train only"),
+        LINK_NUMBER => {
             say(b"expected: links numbered 1, 2, 3, .. in the file's order; the last one was ");
             plain(s.links);
         }
-        5 => say(b"expected: a link line before it"),
-        6 => say(b"expected: a set line of this link before it"),
-        7 => say(b"expected: one set of a link for the same trains"),
-        8 => say(b"no room for more of these lines"),
+        NO_LINK => say(b"expected: a link line before it"),
+        NO_SET => say(b"expected: a set line of this link before it"),
+        SECOND_SET => say(b"expected: one set of a link for the same trains"),
+        NO_ROOM => say(b"no room for more of these lines"),
         _ => say(b"expected: a train line in the file"),
     }
 }

@@ -1,11 +1,10 @@
 -- A list searched alone: its questions in turn, where a search that is done ends, and the values of one record.
-use Prim.Native.Nat.{ℕ, _*_, _/_, _≤_, _<_}
-use native.Mathlib.Omega.{arith}
+use Prim.Native.Nat.{ℕ, _*_, _≤_, _<_}
 use mathlib.Core.Path.{_≡_, refl, sym, ap, ap₂, _∙_}
 use mathlib.Core.Bool.{Bool, true, false, _&&_, and-true, cond}
 use mathlib.Core.List.{List, [], _∷_}
-use borrow.Author.Tests.{leb-true, leb-false, lt-ltb, le-ltb, le-leb, lt-leb}
-use lib.Dec.{T, leb, ltb}
+use borrow.Author.Tests.{lt-ltb, le-ltb}
+use lib.Dec.{T, ltb}
 use lib.ListN.{length}
 use lib.Ieee.{Float}
 use lib.Ieee.Scale.{finite}
@@ -15,7 +14,7 @@ use Rattle.lookup.specs.declared.lin_search_hint.Found.{Found}
 use Rattle.lookup.specs.declared.path_res_coeff.PathResCoeff.{PathResCoeff}
 use Rattle.lookup.specs.Coeff.{coeffs, coeffAt, standsAt, coefficientOf, netOf, resVal, coeffsFinite}
 use Rattle.lookup.specs.CalcIdx.{Indexed, indexed, findIn, listSound}
-use Rattle.lookup.proofs.Steps.{sound-none, sound-known}
+use Rattle.lookup.proofs.Steps.{sound-known}
 use Rattle.lookup.proofs.Place.{found-below}
 use Rattle.path.specs.declared.path_tpc.Answer.{Answer}
 use Rattle.path.specs.Answers.{done, ask, inTurn}
@@ -30,13 +29,6 @@ use Rattle.ieee.proofs.Finite.{add-finite-r, mul-finite-r}
 use Rattle.resistance.proofs.Answered.{settled-no, settled-yes, asked-no, then-no, then-yes, then-done}
 
 -- ---- questions 1 and 2
-thirds : (n k : ℕ) → leb (3 * n) k ≡ leb n (k / 3)
-thirds n k = go (leb n (k / 3)) refl
-  where
-    go : (b : Bool) → leb n (k / 3) ≡ b → leb (3 * n) k ≡ b
-    go true e = le-leb (3 * n) k (omega (arith, leb-true n (k / 3) e))
-    go false e = lt-leb (3 * n) k (omega (arith, leb-false n (k / 3) e))
-
 module _ (also : Bool) (n : ℕ) (c : List Float) where
   pub list-else : also ≡ false → ask 1 false ≡ listAnswer also n c
   unfolding listAnswer
@@ -48,16 +40,9 @@ module _ (also : Bool) (n : ℕ) (c : List Float) where
     list-numbers f = sym (first-no 0 (ask 2 (listSound n c) ∷ []) (ap₂ _&&_ e f))
 
     module _ (f : coeffsFinite true n c ≡ true) where
-      list-second : listAnswer also n c ≡ ask 2 (listSound n c)
+      pub list-sound : ask 2 (listSound n c) ≡ listAnswer also n c
       unfolding listAnswer
-      list-second = first-yes 0 (ask 2 (listSound n c) ∷ []) (ap₂ _&&_ e f) ∙ last-one 1 (listSound n c)
-
-      pub list-none : n ≡ 0 → ask 2 false ≡ listAnswer also n c
-      list-none h = sym (list-second ∙ ap (ask 2) (sound-none n c h))
-
-      pub list-room : (n ≡ 0 → ⊥) → ask 2 (leb n (length c / 3)) ≡ listAnswer also n c
-      unfolding listSound
-      list-room h = sym (list-second ∙ ap (ask 2) (ap₂ _&&_ (le-leb 1 n (omega arith)) (thirds n (length c))))
+      list-sound = sym (first-yes 0 (ask 2 (listSound n c) ∷ []) (ap₂ _&&_ e f) ∙ last-one 1 (listSound n c))
 
   -- what is known of a list that passes
   pub list-done : {r : Answer} → r ≡ listAnswer also n c → r .number ≡ 0 → (0 < n) × (3 * n ≤ length c)

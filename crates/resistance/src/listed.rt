@@ -1,4 +1,5 @@
 // A list searched alone: questions 1 and 2, one search, and one record of it.
+use lookup::calc_idx::list_sound;
 use lookup::lin_search_hint::Dir;
 use lookup::lin_search_hint::Found;
 use lookup::path_res_coeff::calc_res_val;
@@ -49,10 +50,7 @@ pub fn list_answer(col: &[f64], n: usize, also: bool) -> Answer
     if !coeffs_finite(col, n, true) {
         return asked(1, false);
     }
-    if n == 0 {
-        return asked(2, false);
-    }
-    asked(2, n <= col.len() / 3)
+    asked(2, list_sound(col, n))
 }
 
 // The number of a search's answer, and its index.

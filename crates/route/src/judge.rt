@@ -122,14 +122,14 @@ fn is_whole(text: &[u8], at: usize, k: usize) -> bool {
 // Whether field k is what a letter of a form asks for: a number, a whole number, or a word of a kind.
 fn field_fits(text: &[u8], at: usize, k: usize, asks: u8) -> bool {
     match asks {
-        110 => is_number(text, at, k), // n
-        119 => is_whole(text, at, k), // w
-        116 => type_code(bytes_at(text, at, k)) < 7, // t: a train type
-        112 => place_code(bytes_at(text, at, k)) < 8, // p: the place of a set
-        104 => head_code(bytes_at(text, at, k)) < 2, // h: with or without a tail
-        102 => 0 < figure_code(bytes_at(text, at, k)), // f: a figure of the train
-        99 => 0 < comparison_code(bytes_at(text, at, k)), // c
-        100 => direction_code(bytes_at(text, at, k)) < 3, // d
+        b'n' => is_number(text, at, k),
+        b'w' => is_whole(text, at, k),
+        b't' => type_code(bytes_at(text, at, k)) < 7, // a train type
+        b'p' => place_code(bytes_at(text, at, k)) < 8, // the place of a set
+        b'h' => head_code(bytes_at(text, at, k)) < 2, // with or without a tail
+        b'f' => 0 < figure_code(bytes_at(text, at, k)), // a figure of the train
+        b'c' => 0 < comparison_code(bytes_at(text, at, k)),
+        b'd' => direction_code(bytes_at(text, at, k)) < 3,
         _ => false,
     }
 }

@@ -5,18 +5,18 @@ use borrow.Author.Needs.{needs}
 use Rattle.capi.proofs.walks.mochaspit_strap_new_known.Statement.{statement}
 use Rattle.capi.proofs.walks.mochaspit_strap_new_known.Tie as tie
 
-list-holds-requires : tie.Need-list-holds-requires
-list-holds-requires c κs = search needs
+list-sound-requires : tie.Need-list-sound-requires
+list-sound-requires c κs = search needs
 
 new-known-requires : tie.Need-new-known-requires
 new-known-requires c κs =
     let a = c .before .before .before .args in
-    held-known (a .n) (a .col .now) (c .before .list-holds .ensures) (c .if1 .taken)
+    held-known (a .n) (a .col .now) (c .before .list-sound .ensures) (c .if1 .taken)
 
 returns : tie.Need-returns
 returns c =
     let a = c .before .before .before .before .args in
-    held-passed (a .n) (a .col .now) (c .before .before .list-holds .ensures) noStrap (c .before .if1 .taken) (c .new-known .ensures)
+    held-passed (a .n) (a .col .now) (c .before .before .list-sound .ensures) noStrap (c .before .if1 .taken) (c .new-known .ensures)
 
 asked-requires : tie.Need-asked-requires
 asked-requires c κs = search needs
@@ -24,8 +24,8 @@ asked-requires c κs = search needs
 returns-2 : tie.Need-returns-2
 returns-2 c =
     let a = c .before .before .before .before .args in
-    held-refused (a .n) (a .col .now) (c .before .before .list-holds .ensures) noStrap _ (c .before .if1 .left) (c .asked .ensures)
+    held-refused (a .n) (a .col .now) (c .before .before .list-sound .ensures) noStrap _ (c .before .if1 .left) (c .asked .ensures)
 
 pub mochaspit-strap-new-known-spec : {M : Type 1} → statement M
 mochaspit-strap-new-known-spec =
-    tie.close (tie.spec list-holds-requires new-known-requires returns asked-requires returns-2)
+    tie.close (tie.spec list-sound-requires new-known-requires returns asked-requires returns-2)

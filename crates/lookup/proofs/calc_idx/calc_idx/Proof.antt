@@ -1,8 +1,7 @@
 -- `calc_idx`: question by question.
 use mathlib.Core.Path.{sym, _∙_}
-use native.Mathlib.Omega.{arith}
 use borrow.Author.Tests.{not-true, not-false}
-use Rattle.lookup.proofs.Steps.{asks-offset, asks-numbers, asks-some, asks-room, asks-search}
+use Rattle.lookup.proofs.Steps.{asks-offset, asks-numbers, asks-sound, asks-search, sound-known}
 use borrow.Author.Needs.{needs}
 use Rattle.lookup.proofs.calc_idx.calc_idx.Statement.{statement}
 use Rattle.lookup.proofs.calc_idx.calc_idx.Tie as tie
@@ -21,26 +20,27 @@ returns-2 c =
     let f = sym (c .before .before .before .is-finite .ensures) ∙ not-false _ (c .before .before .if1 .left) in
     sym (asks-numbers (c .before .before .before .before .before .args .dir) (c .before .before .before .before .before .args .offset .0) (c .before .before .before .before .before .args .hint) (c .before .before .before .before .before .args .n) (c .before .before .before .before .before .args .col .now) f (sym (c .before .coeffs-finite .ensures) ∙ not-true _ (c .if2 .taken)))
 
+list-sound-requires : tie.Need-list-sound-requires
+list-sound-requires c κs = search needs
+
 returns-3 : tie.Need-returns-3
 returns-3 c =
-    let f = sym (c .before .before .before .before .is-finite .ensures) ∙ not-false _ (c .before .before .before .if1 .left) in
-    let g = sym (c .before .before .coeffs-finite .ensures) ∙ not-false _ (c .before .if2 .left) in
-    sym (asks-some (c .before .before .before .before .before .before .args .dir) (c .before .before .before .before .before .before .args .offset .0) (c .before .before .before .before .before .before .args .hint) (c .before .before .before .before .before .before .args .n) (c .before .before .before .before .before .before .args .col .now) f g (c .if3 .taken))
+    let a = c .before .before .before .before .before .before .before .args in
+    let f = sym (c .before .before .before .before .before .is-finite .ensures) ∙ not-false _ (c .before .before .before .before .if1 .left) in
+    let g = sym (c .before .before .before .coeffs-finite .ensures) ∙ not-false _ (c .before .before .if2 .left) in
+    sym (asks-sound (a .dir) (a .offset .0) (a .hint) (a .n) (a .col .now) f g (sym (c .before .list-sound .ensures) ∙ not-true _ (c .if3 .taken)))
+
+find-requires : tie.Need-find-requires
+find-requires c κs =
+    let a = c .before .before .before .before .before .before .before .args in
+    sound-known (a .n) (a .col .now) (sym (c .before .list-sound .ensures) ∙ not-false _ (c .if3 .left))
 
 returns-4 : tie.Need-returns-4
 returns-4 c =
-    let f = sym (c .before .before .before .before .before .is-finite .ensures) ∙ not-false _ (c .before .before .before .before .if1 .left) in
-    let g = sym (c .before .before .before .coeffs-finite .ensures) ∙ not-false _ (c .before .before .if2 .left) in
-    sym (asks-room (c .before .before .before .before .before .before .before .args .dir) (c .before .before .before .before .before .before .before .args .offset .0) (c .before .before .before .before .before .before .before .args .hint) (c .before .before .before .before .before .before .before .args .n) (c .before .before .before .before .before .before .before .args .col .now) f g (omega arith) (omega arith))
-
-find-requires : tie.Need-find-requires
-find-requires c κs = (omega arith, omega arith)
-
-returns-5 : tie.Need-returns-5
-returns-5 c =
+    let a = c .before .before .before .before .before .before .before .before .args in
     let f = sym (c .before .before .before .before .before .before .is-finite .ensures) ∙ not-false _ (c .before .before .before .before .before .if1 .left) in
     let g = sym (c .before .before .before .before .coeffs-finite .ensures) ∙ not-false _ (c .before .before .before .if2 .left) in
-    c .find .ensures ∙ sym (asks-search (c .before .before .before .before .before .before .before .before .args .dir) (c .before .before .before .before .before .before .before .before .args .offset .0) (c .before .before .before .before .before .before .before .before .args .hint) (c .before .before .before .before .before .before .before .before .args .n) (c .before .before .before .before .before .before .before .before .args .col .now) f g (omega arith) (omega arith))
+    c .find .ensures ∙ sym (asks-search (a .dir) (a .offset .0) (a .hint) (a .n) (a .col .now) f g (sym (c .before .before .list-sound .ensures) ∙ not-false _ (c .before .if3 .left)))
 
 pub calc-idx-spec : {M : Type 1} → statement M
 calc-idx-spec =
@@ -50,7 +50,7 @@ calc-idx-spec =
     returns
     coeffs-finite-requires
     returns-2
+    list-sound-requires
     returns-3
-    returns-4
     find-requires
-    returns-5)
+    returns-4)

@@ -1,7 +1,8 @@
 -- `list_answer`: question 1 and then question 2.
-use mathlib.Core.Path.{sym, _∙_}
+use mathlib.Core.Path.{sym, ap, _∙_}
 use borrow.Author.Tests.{not-true, not-false}
-use Rattle.resistance.proofs.ListSteps.{list-else, list-numbers, list-none, list-room}
+use Rattle.resistance.proofs.ListSteps.{list-else, list-numbers, list-sound}
+use Rattle.path.specs.Answers.{ask}
 use borrow.Author.Needs.{needs}
 use Rattle.resistance.proofs.listed.list_answer.Statement.{statement}
 use Rattle.resistance.proofs.listed.list_answer.Tie as tie
@@ -25,21 +26,18 @@ returns-2 c =
     let a = c .before .before .before .before .before .args in
     c .asked2 .ensures ∙ list-numbers (a .also) (a .n) (a .col .now) (not-false _ (c .before .before .before .if1 .left)) (sym (c .before .before .coeffs-finite .ensures) ∙ not-true _ (c .before .if2 .taken))
 
+list-sound-requires : tie.Need-list-sound-requires
+list-sound-requires c κs = search needs
+
 asked-requires-3 : tie.Need-asked-requires-3
 asked-requires-3 c κs = search needs
 
 returns-3 : tie.Need-returns-3
 returns-3 c =
     let a = c .before .before .before .before .before .before .args in
-    c .asked3 .ensures ∙ list-none (a .also) (a .n) (a .col .now) (not-false _ (c .before .before .before .before .if1 .left)) (sym (c .before .before .before .coeffs-finite .ensures) ∙ not-false _ (c .before .before .if2 .left)) (c .before .if3 .taken)
-
-asked-requires-4 : tie.Need-asked-requires-4
-asked-requires-4 c κs = search needs
-
-returns-4 : tie.Need-returns-4
-returns-4 c =
-    let a = c .before .before .before .before .before .before .args in
-    c .asked4 .ensures ∙ list-room (a .also) (a .n) (a .col .now) (not-false _ (c .before .before .before .before .if1 .left)) (sym (c .before .before .before .coeffs-finite .ensures) ∙ not-false _ (c .before .before .if2 .left)) (c .before .if3 .left)
+    c .asked3 .ensures
+    ∙ ap (ask 2) (c .before .list-sound .ensures)
+    ∙ list-sound (a .also) (a .n) (a .col .now) (not-false _ (c .before .before .before .before .if1 .left)) (sym (c .before .before .before .coeffs-finite .ensures) ∙ not-false _ (c .before .before .if2 .left))
 
 pub list-answer-spec : {M : Type 1} → statement M
 list-answer-spec =
@@ -50,7 +48,6 @@ list-answer-spec =
     coeffs-finite-requires
     asked-requires-2
     returns-2
+    list-sound-requires
     asked-requires-3
-    returns-3
-    asked-requires-4
-    returns-4)
+    returns-3)
