@@ -12,7 +12,6 @@ use route::judge::judge;
 use show::say;
 use show::tell;
 use show::tell_count;
-ghost use Prim.Native.Nat.{_≤_};
 
 // Judges a text; runs it where every line can be read.
 fn plan_text(name: &[u8], text: &[u8], svg: bool) {

@@ -4,7 +4,11 @@ use mathlib.Core.Bool.{Bool, true, false, _&&_}
 use mathlib.Core.List.{List, [], _∷_}
 use lib.Dec.{eqb}
 use Rattle.decimal.specs.declared.decimal.Reading.{Reading}
+use Rattle.decimal.specs.declared.decimal.Reading.the-variants as Reads
 use Rattle.decimal.specs.declared.whole.Whole.{Whole}
+use Rattle.decimal.specs.declared.whole.Whole.the-variants as Wholes
+use lib.Ieee.{Float}
+use Rattle.ieee.specs.Number.{+0}
 use Rattle.decimal.specs.Number.{readNumber, readWhole}
 use Rattle.route.specs.Text.{field, bytesOf}
 
@@ -24,6 +28,15 @@ fieldBytes text at k = bytesOf text (field text at k)
 unfoldable pub numberAt : List ℕ → ℕ → ℕ → Reading
 unfolding fieldBytes readNumber
 numberAt text at k = readNumber (fieldBytes text at k)
+
+-- a number that is known to be one; 0 otherwise
+abbrev pub orZero : Reading → Float
+orZero (Reads.Is x) = x
+orZero Reads.Not = +0
+
+abbrev pub wholeOrZero : Whole → ℕ
+wholeOrZero (Wholes.Is n) = n
+wholeOrZero Wholes.Not = 0
 
 -- the whole number that field k is
 unfoldable pub wholeAt : List ℕ → ℕ → ℕ → Whole

@@ -47,7 +47,9 @@ pub fn is_word(a: &[u8], b: &[u8]) -> bool
 }
 
 // The number that a field is known to be; 0 otherwise.
-pub fn float_at(text: &[u8], at: usize, k: usize) -> f64 {
+pub fn float_at(text: &[u8], at: usize, k: usize) -> f64
+    ensures { λ r. ⌜ r ≡ spec.orZero (spec.numberAt (now (text .entry)) at k) ⌝ }
+{
     let r = number_at(text, at, k);
     match r {
         Reading::Is(x) => x,
@@ -56,7 +58,9 @@ pub fn float_at(text: &[u8], at: usize, k: usize) -> f64 {
 }
 
 // The whole number that a field is known to be; 0 otherwise.
-pub fn count_at(text: &[u8], at: usize, k: usize) -> u32 {
+pub fn count_at(text: &[u8], at: usize, k: usize) -> u32
+    ensures { λ r. ⌜ r ≡ spec.wholeOrZero (spec.wholeAt (now (text .entry)) at k) ⌝ }
+{
     let r = whole_at(text, at, k);
     match r {
         Whole::Is(n) => n,

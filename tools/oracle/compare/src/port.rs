@@ -120,6 +120,8 @@ pub fn path_call(call: &Call, path: PathTpc, t: Train, c: &mut Cols, f: &Flat) -
             let twice = clear_each(path, &[*x, *x], &mut each);
             let a = clear(path, *x, c);
             // a second trim at the same offset drops nothing more
+            let (d, e) = (a.dropped, twice.dropped);
+            assert_eq!((d.grade_count, d.curve_count, d.cat_power_count), (e.grade_count, e.curve_count, e.cat_power_count));
             assert!(each.differ(c).is_empty() && twice.outcome.path == a.outcome.path, "a list of trims differs");
             assert_eq!((twice.outcome.answer.number, twice.count), (a.outcome.answer.number, if a.outcome.answer.number == 0 { 2 } else { 0 }));
             let (mut v, p) = plain(a.outcome);
