@@ -32,7 +32,7 @@
  *   12  the path has no link to drop
  *
  * The place is, for 4 to 8 of mochaspit_extend, the first failing position in the list of links, from 0; for mochaspit_recalc_speeds
- * and mochaspit_reindex the index of the link point; otherwise 0.
+ * and mochaspit_reindex the index of the link point; for mochaspit_clear_each the position of the refused trim in the list; otherwise 0.
  *
  * A refused call leaves every column and every record as it came, and has 0 for each value that was asked for.
  *
@@ -181,18 +181,11 @@ typedef struct mochaspit_link_point {
     uint32_t link_idx;
 } mochaspit_link_point;
 
-/* What mochaspit_clear answers: dropped has the grade, curve and power counts of the links that went. */
+/* What mochaspit_clear and mochaspit_clear_each answer: dropped has the grade, curve and power counts of the links that went. */
 typedef struct mochaspit_clear_answer {
     mochaspit_path_answer outcome;
     mochaspit_link_point dropped;
 } mochaspit_clear_answer;
-
-/* What mochaspit_clear_each answers: the outcome of the last trim made, the counts of all links that went, and how many trims were done. */
-typedef struct mochaspit_trims_answer {
-    mochaspit_path_answer outcome;
-    mochaspit_link_point dropped;
-    size_t count;
-} mochaspit_trims_answer;
 
 /* A train: length, top speed, masses, curve coefficients, axles, and the code of its type. */
 typedef struct mochaspit_train {
@@ -357,12 +350,13 @@ mochaspit_clear_answer mochaspit_clear(
     uint32_t *districts, size_t districts_len);
 
 /*
- * Drops the links behind each offset of a list in turn: what mochaspit_clear does, called for one offset after another, each on the path as the one
- * before left it. The first refusal ends the list. Questions 1 and 2 of the path are asked once, and the records move once.
- * Comes back: the answer of the last trim made, done where all are, with the record after those that are done; in dropped all that went; in count how many
- * were done. An empty list asks nothing and changes nothing.
+ * Drops the links behind each offset of a list in turn, all or nothing: what so many calls of mochaspit_clear leave, each on the path
+ * as the one before left it. Questions 1 and 2 of the path are asked once, and the records move once.
+ * Questions: those of mochaspit_clear, trim by trim; the first refusal is the answer, its place the position in the list, from 0.
+ * An empty list asks 1 and 2 and leaves zeros past the counts.
+ * Comes back: the record with the new counts, and in dropped all that went. Refused: columns and record as they came, dropped 0.
  */
-mochaspit_trims_answer mochaspit_clear_each(
+mochaspit_clear_answer mochaspit_clear_each(
     mochaspit_path_tpc path,
     const double *xs, size_t xs_len,
     double *offsets, size_t offsets_len,

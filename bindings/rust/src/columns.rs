@@ -117,7 +117,7 @@ impl Columns {
         call!(mochaspit_clear(path, offset) writes self)
     }
 
-    pub fn clear_each(&mut self, path: sys::PathTpc, offsets: &[f64]) -> sys::TrimsAnswer {
+    pub fn clear_each(&mut self, path: sys::PathTpc, offsets: &[f64]) -> sys::ClearAnswer {
         call!(mochaspit_clear_each(path, offsets.as_ptr(), offsets.len()) writes self)
     }
 

@@ -22,7 +22,7 @@ pub struct LinkPoint {
     pub link: LinkIdx,
 }
 
-/// What [`Path::clear`] dropped: so many records at the beginning of each list.
+/// What [`Path::clear`] or [`Path::clear_each`] dropped: so many records at the beginning of each list.
 #[derive(Clone, Copy, Debug, Default, PartialEq, Eq, Hash)]
 pub struct Dropped {
     pub links: usize,
@@ -66,32 +66,17 @@ impl Path {
     ///
     /// The kept beginning is the first link point whose next one is not before the offset. Refused with 1, 10 and 12.
     pub fn clear(&mut self, offset: f64) -> Result<Dropped, Refusal> {
-        let before = self.record.link_count;
         let done = self.columns.clear(self.record, offset);
-        self.take(done.outcome)?;
-        Ok(Dropped {
-            links: before - self.record.link_count,
-            grades: done.dropped.grade_count,
-            curves: done.dropped.curve_count,
-            power_limits: done.dropped.cat_power_count,
-        })
+        self.dropped(done)
     }
 
-    /// Drops the links behind each of these offsets in turn, as so many calls of [`Path::clear`] would; the path is judged once, and its records move once.
+    /// Drops the links behind each of these offsets in turn, all or nothing: what so many calls of [`Path::clear`] leave; the path is
+    /// judged once, and its records move once.
     ///
-    /// Answers what was dropped in all, how many of the offsets were done, and the refusal that ended the list, if one did.
-    pub fn clear_each(&mut self, offsets: &[f64]) -> (Dropped, usize, Result<(), Refusal>) {
-        let before = self.record.link_count;
+    /// Refused as the first of those calls that is refused, its place the position in the list.
+    pub fn clear_each(&mut self, offsets: &[f64]) -> Result<Dropped, Refusal> {
         let done = self.columns.clear_each(self.record, offsets);
-        self.record = done.outcome.path;
-        let dropped = Dropped {
-            links: before - self.record.link_count,
-            grades: done.dropped.grade_count,
-            curves: done.dropped.curve_count,
-            power_limits: done.dropped.cat_power_count,
-        };
-        let ended = self.take(done.outcome);
-        (dropped, done.count, ended)
+        self.dropped(done)
     }
 
     /// Closes the path with a grade and a curve record at +infinity. Refused with 3 and 9.
@@ -176,6 +161,18 @@ impl Path {
     /// The record and the columns, for calls that only read a path.
     pub(crate) fn parts(&self) -> (sys::PathTpc, &Columns) {
         (self.record, &self.columns)
+    }
+
+    /// Keeps the record of trims that are done, and tells what went.
+    fn dropped(&mut self, done: sys::ClearAnswer) -> Result<Dropped, Refusal> {
+        let before = self.record.link_count;
+        self.take(done.outcome)?;
+        Ok(Dropped {
+            links: before - self.record.link_count,
+            grades: done.dropped.grade_count,
+            curves: done.dropped.curve_count,
+            power_limits: done.dropped.cat_power_count,
+        })
     }
 
     /// Keeps the record of a call that is done.

@@ -44,14 +44,6 @@ pub struct ClearAnswer {
 
 #[repr(C)]
 #[derive(Clone, Copy, Debug, Default)]
-pub struct TrimsAnswer {
-    pub outcome: PathAnswer,
-    pub dropped: LinkPoint,
-    pub count: usize,
-}
-
-#[repr(C)]
-#[derive(Clone, Copy, Debug, Default)]
 pub struct Train {
     pub length: f64,
     pub speed_max: f64,
@@ -212,7 +204,7 @@ macro_rules! path_call {
 path_call!(mochaspit_new(train: Train) writes -> PathAnswer);
 path_call!(mochaspit_finish(path: PathTpc) writes -> PathAnswer);
 path_call!(mochaspit_clear(path: PathTpc, offset: f64) writes -> ClearAnswer);
-path_call!(mochaspit_clear_each(path: PathTpc, xs: *const f64, xs_len: usize) writes -> TrimsAnswer);
+path_call!(mochaspit_clear_each(path: PathTpc, xs: *const f64, xs_len: usize) writes -> ClearAnswer);
 path_call!(mochaspit_reindex(path: PathTpc, new: *const u32, new_len: usize) writes -> PathAnswer);
 path_call!(mochaspit_extend(path: PathTpc, train: Train, list: *const u32, list_len: usize) writes from table -> PathAnswer);
 path_call!(mochaspit_recalc_speeds(path: PathTpc, train: Train) writes from table -> PathAnswer);
@@ -248,6 +240,13 @@ extern "C" {
     pub fn mochaspit_strap_new_known(col: *const f64, col_len: usize, n: usize, state: TrainState) -> StrapAnswer;
     pub fn mochaspit_strap_calc_res_known(strap: Strap, col: *const f64, col_len: usize, n: usize, state: TrainState, dir: u32) -> StrapRes;
     pub fn mochaspit_strap_walk_known(
-        strap: Strap, col: *const f64, col_len: usize, n: usize, state: TrainState, dir: u32, step: f64, count: usize,
+        strap: Strap,
+        col: *const f64,
+        col_len: usize,
+        n: usize,
+        state: TrainState,
+        dir: u32,
+        step: f64,
+        count: usize,
     ) -> Walked;
 }

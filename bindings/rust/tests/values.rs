@@ -4,8 +4,8 @@ mod common;
 
 use common::{head_end, idxs, link, path_of, speeds, train, two_links};
 use mochaspit::{
-    Coeff, Compare, Condition, Elevation, Heading, Link, LinkIdx, LinkPoint, LinkTable, Path, Position, PowerLimit, SpeedSet, SpeedSets, Train,
-    TrainType, TypeSets,
+    Coeff, Compare, Condition, Dropped, Elevation, Heading, Link, LinkIdx, LinkPoint, LinkTable, Path, Position, PowerLimit, SpeedSet, SpeedSets,
+    Train, TrainType, TypeSets,
 };
 use std::f64::consts::PI;
 
@@ -81,15 +81,24 @@ fn a_list_of_trims_is_so_many_trims() {
     let mut in_one = one_by_one.clone();
     one_by_one.clear(60.0).unwrap();
     let last = one_by_one.clear(120.0).unwrap();
-    let (dropped, count, ended) = in_one.clear_each(&[60.0, 120.0]);
-    assert_eq!((dropped, count, ended), (last, 2, Ok(())));
+    assert_eq!(in_one.clear_each(&[60.0, 120.0]), Ok(last));
     assert_eq!(in_one, one_by_one);
     assert_eq!(speeds(&in_one)[0], (100.0, 20.0));
-    let (dropped, count, ended) = in_one.clear_each(&[130.0, 99.0, 140.0]);
-    assert_eq!((dropped.links, count, ended.unwrap_err().number), (0, 1, 10));
+    assert_eq!(in_one.clear_each(&[]), Ok(Dropped::default()));
     assert_eq!(in_one, one_by_one);
-    assert_eq!(in_one.clear_each(&[]).1, 0);
-    assert_eq!(in_one, one_by_one);
+}
+
+#[test]
+fn a_refused_list_of_trims_changes_nothing() {
+    let before = path_of(&two_links(&[(50.0, 200.0, 20.0)]), &[1, 2]);
+    let mut path = before.clone();
+    let refused =
+        [([120.0, 251.0, 120.0], (10, 1)), ([120.0, 130.0, 99.0], (10, 2)), ([-1.0, 130.0, 140.0], (10, 0)), ([120.0, f64::NAN, 0.0], (1, 1))];
+    for (offsets, (number, place)) in refused {
+        let refusal = path.clear_each(&offsets).unwrap_err();
+        assert_eq!((refusal.number, refusal.place), (number, place));
+        assert_eq!(path, before);
+    }
 }
 
 #[test]

@@ -20,7 +20,7 @@ use Rattle.link.specs.Train.{topSpeed}
 use Rattle.path.specs.Sound.{trainFinite}
 use Rattle.book.specs.Book.{Call, Book, newBook, enterCall}
 use Rattle.book.specs.Book.Call.{extend, clear, reindex, finish}
-use Rattle.book.specs.Good.{GoodCall}
+use Rattle.book.proofs.Good.{GoodCall}
 use Rattle.book.specs.Claims.{PostedRight, Offset, Claims}
 use Rattle.book.proofs.FiniteTrain.{train-good}
 use Rattle.book.proofs.Joined.{links-claims}

@@ -26,7 +26,7 @@ use Rattle.path_links.specs.Reindex.{newNumber, withNumber, renumberedFrom, ren
 use Rattle.path_join.specs.Listed.{risesOf}
 use Rattle.path_join.specs.Joined.{joinPoint, joinRecords, join, joinAll, startNet, started}
 use Rattle.book.specs.Book.{Book, newBook, lastEnd, enterLink, enterLinks, dropEndsFrom, dropEnds, dropBehind}
-use Rattle.book.specs.Good.{GoodLinks}
+use Rattle.book.proofs.Good.{GoodLinks}
 use Rattle.book.specs.Demand.{TableF64}
 use Rattle.book.proofs.Matching.{Matched, Begun, Grounded}
 use Rattle.book.proofs.Laying.{stands, joined-ends, join-begun}

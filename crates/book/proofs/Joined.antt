@@ -20,7 +20,7 @@ use Rattle.link.proofs.Known.{formed, set-formed, limits-formed}
 use Rattle.path.specs.Sound.{trainFinite}
 use Rattle.path_speeds.specs.Limits.{ifApplies, applyingSet, tailOf, entering, limitsFinite, setsOf, setOf, enteringAt, finiteAt, lowering, layAll}
 use Rattle.book.specs.Book.{Book, firstEnd, lastEnd, enterLink, enterLinks}
-use Rattle.book.specs.Good.{GoodLink, GoodLinks}
+use Rattle.book.proofs.Good.{GoodLink, GoodLinks}
 use Rattle.book.specs.Claims.{postedAt, Offset, Claims}
 use Rattle.book.proofs.Placed.{sum-offset, AllEnter, all-enter}
 use Rattle.book.proofs.Ends.{last-offset, first-last, first-more, some-more, offsets-more, rising-more}

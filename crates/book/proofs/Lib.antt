@@ -1,4 +1,5 @@
 -- Laws of the definitions, up to the claims of a book after any list of calls, and of the path beside it.
+pub mod Good
 pub mod Signs
 pub mod FiniteTrain
 pub mod Placed
@@ -22,3 +23,6 @@ pub mod LaidStretches
 pub mod StayJoined
 pub mod Running
 pub mod DemandThree
+pub mod Held
+pub mod Tidy
+pub mod TrimsRun

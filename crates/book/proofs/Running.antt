@@ -22,7 +22,7 @@ use Rattle.path_extend.specs.Extend.{extendAnswer, extendOf}
 use Rattle.path_extend.proofs.Asked.{settled}
 use Rattle.book.specs.Book.{Call, Told, Book, newBook, enterCall, enter, bookFrom, bookOf}
 use Rattle.book.specs.Book.Call.{extend, clear, reindex, finish}
-use Rattle.book.specs.Good.{GoodCall}
+use Rattle.book.proofs.Good.{GoodCall}
 use Rattle.book.specs.Claims.{Claims}
 use Rattle.book.specs.Demand.{callOf, run, CallF64, CallsF64, ranFromNew}
 use Rattle.book.proofs.Matching.{Matched, Grounded}

@@ -30,7 +30,7 @@ use Rattle.path_extend.specs.declared.front.Front.{Front}
 use Rattle.path_extend.specs.Sums.{frontOf, endAt, sumsFinite, sumsFrom}
 use Rattle.path_extend.specs.Extend.{recordsFit, followed, sumsAnswer, extendAnswer}
 use Rattle.book.specs.Book.{Book, lastEnd, enterLink}
-use Rattle.book.specs.Good.{GoodLink, GoodLinks, GoodClear}
+use Rattle.book.proofs.Good.{GoodLink, GoodLinks, GoodClear}
 use Rattle.book.proofs.Matching.{Matched}
 use Rattle.book.proofs.Ends.{some-more}
 use Rattle.book.proofs.LinkEnds.{same-count, first-end, last-end}

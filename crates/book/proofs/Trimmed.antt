@@ -10,7 +10,7 @@ use Rattle.speed_laws.specs.Words.{Finite}
 use Rattle.speed_laws.proofs.Clear.{clear-order, clear-begins, clear-posted, clear-every}
 use Rattle.link.specs.declared.train_params.TrainParams.{TrainParams}
 use Rattle.book.specs.Book.{Book, firstEnd, dropEnds, dropBehind}
-use Rattle.book.specs.Good.{GoodClear}
+use Rattle.book.proofs.Good.{GoodClear}
 use Rattle.book.specs.Claims.{postedAt, Offset, Claims}
 use Rattle.book.proofs.Ends.{first-offset, Left, ends-left}
 use Rattle.book.proofs.Entered.{same-limits}

@@ -76,12 +76,20 @@ CallsF64 (x ∷ xs) = CallF64 x × CallsF64 xs
 
 -- ---- demand 3
 
--- "The path's beginning is the first end, link k's offset end k, from 0": the records of each link, of which its link point counts `count`, begin there
+-- the index of link k's first record: so many do the links before it count
+abbrev pub firstRecord : (LinkPoint → ℕ) → List LinkPoint → ℕ → ℕ
+firstRecord count links k = total count (take k links)
+
+-- "The path's beginning is the first end, link k's offset end k, from 0": the records of each link, of which its link point counts `count`, are there, and
+-- begin at that end
 abbrev pub BeginAtEnds : (LinkPoint → ℕ) → List LinkPoint → List PathResCoeff → List Float → Type 0
-BeginAtEnds count links rs ends = (k : ℕ) → k + 1 < length ends → coeff.offsetAt rs (total count (take k links)) ≡ getD ends k nan
+BeginAtEnds count links rs ends =
+    (k : ℕ) → k + 1 < length ends → (firstRecord count links k < length rs) × (coeff.offsetAt rs (firstRecord count links k) ≡ getD ends k nan)
 
 -- what holds of a path against the book of its calls
 pub record Kept (train : TrainParams) (path : Path) (b : Book) : Type 0 where
+  -- there is an end: the path's beginning
+  pub some-end : 0 < length (b .ends)
   -- "the link points stand at the book's ends, one for one"
   pub links : map offsetOf (path .links) ≡ b .ends
   -- "the speed points are to the bit those of 01's book of the calls,

@@ -4,7 +4,6 @@ use crate::codes::train_of;
 use path::path_tpc::PathAnswer;
 use path::path_tpc::PathTpc;
 use path_trim::clear::ClearAnswer;
-use path_trims::clear_each::TrimsAnswer;
 use si::Length;
 ghost use mathlib.Core.Path.{_≡_};
 ghost use Rattle.link.specs.Table.{tableOf};
@@ -13,7 +12,7 @@ ghost use Rattle.path.specs.Answers.{Outcome, left};
 ghost use Rattle.path_trim.specs.New.{newOf};
 ghost use Rattle.path_trim.specs.Finish.{finishOf};
 ghost use Rattle.path_trim.specs.Clear.{Cleared, clearOf};
-ghost use Rattle.path_trims.specs.Trims.{Trimmed, clearEach};
+ghost use Rattle.path_trims.specs.Trims.{clearEach};
 ghost use Rattle.path_links.specs.Reindex.{reindexOf};
 ghost use Rattle.path_speeds.specs.Recalc.{recalcOf};
 ghost use Rattle.path_extend.specs.Extend.{extendOf};
@@ -123,7 +122,7 @@ pub extern "C" fn mochaspit_clear(
     )
 }
 
-// `clear_each`: the links behind each offset of a list go, in turn.
+// `clear_each`: the links behind each offset of a list go, in turn, all or nothing.
 #[no_mangle]
 pub extern "C" fn mochaspit_clear_each(
     path: PathTpc,
@@ -135,8 +134,8 @@ pub extern "C" fn mochaspit_clear_each(
     speeds: &mut [f64],
     powers: &mut [f64],
     districts: &mut [u32],
-) -> TrimsAnswer
-    ensures { λ r. ⌜ _≡_ {A = Trimmed} (record { outcome = left (r .outcome) (columns (now (offsets .exit)) (now (numbers .exit)) (now (grades .exit)) (now (curves .exit)) (now (speeds .exit)) (now (powers .exit)) (now (districts .exit))); dropped = r .dropped; count = r .count }) (clearEach (now (xs .entry)) path (columns (now (offsets .entry)) (now (numbers .entry)) (now (grades .entry)) (now (curves .entry)) (now (speeds .entry)) (now (powers .entry)) (now (districts .entry)))) ⌝ }
+) -> ClearAnswer
+    ensures { λ r. ⌜ _≡_ {A = Cleared} (record { outcome = left (r .outcome) (columns (now (offsets .exit)) (now (numbers .exit)) (now (grades .exit)) (now (curves .exit)) (now (speeds .exit)) (now (powers .exit)) (now (districts .exit))); dropped = r .dropped }) (clearEach (now (xs .entry)) path (columns (now (offsets .entry)) (now (numbers .entry)) (now (grades .entry)) (now (curves .entry)) (now (speeds .entry)) (now (powers .entry)) (now (districts .entry)))) ⌝ }
 {
     path_trims::clear_each::clear_each(
         path,

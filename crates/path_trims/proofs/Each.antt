@@ -24,11 +24,11 @@ use Rattle.path_trim.proofs.Dropping.{clear-first}
 use Rattle.path_trim.proofs.Trimmed.{refused}
 use Rattle.path_trims.specs.declared.clear_each.Progress.{Progress}
 use Rattle.path_trims.specs.Going.{trimAnswer, goingOf}
-use Rattle.path_trims.specs.Trims.{both, Trimmed, trimsOf, clearEach}
+use Rattle.path_trims.specs.Trims.{trimsAnswer, both, trimsLeave}
 use Rattle.path_trims.proofs.WithoutLinks.{own-clear}
 use Rattle.path_trims.proofs.StillSound.{lists-one, lists-sound, stays-trimmed}
 use Rattle.path_trims.proofs.Twice.{both-totals, clear-twice}
-use Rattle.path_trims.proofs.Gone.{trim-left, going-more, going-ends, going-count}
+use Rattle.path_trims.proofs.Gone.{trim-left, going-more, going-ends, going-first}
 
 -- ---- the questions of a trim, once questions 1 and 2 of the path pass
 module _ (x : Float) (p : PathTpc) (c : Columns) (f : pathFinite p c ≡ true) (s : sound p c ≡ true) where
@@ -52,27 +52,16 @@ module _ (x : Float) (p : PathTpc) (c : Columns) (f : pathFinite p c ≡ true) (
           turn-no (pathAnswer (finite x) p c) (asked10 (p .«link_count»)) {r = ask 1 false} (sym (judged-else (finite x) p c e)) (λ h. omega arith)
           ∙ sym (first-no 0 (asked10 (length (pathOf p c .links))) e)
 
--- ---- the trims of a list, as the answer r of the first decides them
-module _ (dropped : LinkPoint) (k : ℕ) (xs : List Float) where
-  abbrev decided : Cleared → Trimmed
-  decided r =
-      cond (isDone (r .outcome .answer .answer)) (trimsOf (both dropped (r .dropped)) (k + 1) xs (r .outcome .answer .path) (r .outcome .columns)) (record { outcome = r .outcome; dropped = dropped; count = k })
-
--- where no trim is done: the answer a, and the path as it came
-abbrev pub noneDone : Answer → PathTpc → Columns → Trimmed
-noneDone a p c = record { outcome = left (record { answer = a; path = p }) c; dropped = noLinkPoint; count = 0 }
-
--- r is the code's answer to questions 1 and 2, which refuse the first trim
-pub each-refused : (x : Float) (xs : List Float) (p : PathTpc) (c : Columns) {r : Answer} → r ≡ pathAnswer (finite x) p c → (r .number ≡ 0 → ⊥) → clearEach (x ∷ xs) p c ≡ noneDone r p c
-unfolding clearEach totals linkPoints
-each-refused x xs p c {r} e h = ap (decided noLinkPoint 0 xs) (sym (refused x p c (sym (clear-first x p c e h)) h refl)) ∙ rw (ne-eqb (r .number) 0 h)
+-- ---- the answer of a list of trims, as what the first leaves decides it
+abbrev decided : ℕ → List Float → Outcome → Answer
+decided k xs o = cond (isDone (o .answer .answer)) (trimsAnswer (k + 1) xs (o .answer .path) (o .columns)) (record { number = o .answer .answer .number; place = k })
 
 -- ---- a path without its first d links, as a trim finds it: q in the columns l
-record Found (path : Path) (c : Columns) (d : ℕ) (q : PathTpc) (l : Columns) : Type 0 where
-  numbers : pathFinite q l ≡ true
-  known : sound q l ≡ true
-  is : pathOf q l ≡ clearedPath d path
-  long : Long l c
+pub record Found (path : Path) (c : Columns) (d : ℕ) (q : PathTpc) (l : Columns) : Type 0 where
+  pub numbers : pathFinite q l ≡ true
+  pub known : sound q l ≡ true
+  pub is : pathOf q l ≡ clearedPath d path
+  pub long : Long l c
 
 links-left : (d : ℕ) (path : Path) → clearedPath d path .links ≡ drop d (path .links)
 unfolding clearedPath withoutLinks
@@ -111,16 +100,21 @@ module _ (path : Path) (one : oneOfEach (recordOf path) ≡ true) (known : sound
       ∙ ap (λ (qs : List LinkPoint). totals (take (dropCount x qs) qs)) rest-is)
 
   -- the trims after it
-  module _ (dropped : LinkPoint) (k : ℕ) (xs : List Float) where
-    trims-end : isDone (trimAnswer x rest) ≡ false → trimsOf dropped k (x ∷ xs) q l ≡ record { outcome = left (record { answer = trimAnswer x rest; path = q }) l; dropped = dropped; count = k }
-    unfolding trimsOf
-    trims-end e = ap (decided dropped k xs) (trim-refused e) ∙ rw e
+  module _ (xs : List Float) where
+    answer-ends : (k : ℕ) → isDone (trimAnswer x rest) ≡ false → trimsAnswer k (x ∷ xs) q l ≡ record { number = trimAnswer x rest .number; place = k }
+    unfolding trimsAnswer
+    answer-ends k e = ap (decided k xs) (ap (λ (r : Cleared). r .outcome) (trim-refused e)) ∙ rw e
 
-    trims-more : isDone (trimAnswer x rest) ≡ true
-        → trimsOf dropped k (x ∷ xs) q l
-        ≡ trimsOf (both dropped (totals (take (dropCount x rest) rest))) (k + 1) xs (recordOf (clearedPath (d + dropCount x rest) path)) (columnsOf c (clearedPath (d + dropCount x rest) path))
-    unfolding trimsOf changed
-    trims-more e = ap (decided dropped k xs) (trim-done e)
+    answer-more : (k : ℕ) → isDone (trimAnswer x rest) ≡ true
+        → trimsAnswer k (x ∷ xs) q l ≡ trimsAnswer (k + 1) xs (recordOf (clearedPath (d + dropCount x rest) path)) (columnsOf c (clearedPath (d + dropCount x rest) path))
+    unfolding trimsAnswer changed
+    answer-more k e = ap (decided k xs) (ap (λ (r : Cleared). r .outcome) (trim-done e))
+
+    leave-more : (dropped : LinkPoint) → isDone (trimAnswer x rest) ≡ true
+        → trimsLeave dropped (x ∷ xs) q l
+        ≡ trimsLeave (both dropped (totals (take (dropCount x rest) rest))) xs (recordOf (clearedPath (d + dropCount x rest) path)) (columnsOf c (clearedPath (d + dropCount x rest) path))
+    unfolding trimsLeave changed
+    leave-more dropped e = ap (λ (r : Cleared). trimsLeave (both dropped (r .dropped)) xs (r .outcome .answer .path) (r .outcome .columns)) (trim-done e)
 
 -- ---- all of them
 module _ (p : PathTpc) (c : Columns) (f : pathFinite p c ≡ true) (s : sound p c ≡ true) where
@@ -131,74 +125,53 @@ module _ (p : PathTpc) (c : Columns) (f : pathFinite p c ≡ true) (s : sound p 
   ps = path .links
 
   -- what the trims leave that get so far
-  abbrev pub reached : Progress → Trimmed
-  reached g =
-      record {
-        outcome = left (record { answer = g .answer; path = recordOf (clearedPath (g .gone) path) }) (columnsOf c (clearedPath (g .gone) path));
-        dropped = totals (take (g .gone) ps);
-        count = g .count;
-      }
+  abbrev pub reached : Progress → Cleared
+  reached g = record { outcome = changed c (clearedPath (g .gone) path); dropped = totals (take (g .gone) ps) }
 
   found-next : (d : ℕ) → d + 1 < length ps → Found path c d (recordOf (clearedPath d path)) (columnsOf c (clearedPath d path))
   found-next d h =
       let stays = stays-trimmed p c f s d h in
       record { numbers = stays .0; known = stays .1; is = read-back c (clearedPath d path); long = written-long c (clearedPath d path) (own-clear d path h c (before p c f s) .1) }
 
-  found-first : Found path c 0 p c
+  pub found-first : Found path c 0 p c
   unfolding clearedPath
   found-first = record { numbers = f; known = s; is = refl; long = record { offsets = refl; numbers = refl; grades = refl; curves = refl; speeds = refl; powers = refl; districts = refl } }
 
-  follow : (xs : List Float) (d k : ℕ) → d + 1 < length ps → trimsOf (totals (take d ps)) k xs (recordOf (clearedPath d path)) (columnsOf c (clearedPath d path)) ≡ reached (goingOf d k xs ps)
-  unfolding trimsOf goingOf
-  follow [] d k h = refl
-  follow (x ∷ xs) d k h = go (isDone (trimAnswer x (drop d ps))) refl (follow xs (d + dropCount x (drop d ps)) (k + 1))
+  pub follow-answer : (xs : List Float) (d k : ℕ) {q : PathTpc} {l : Columns} → Found path c d q l → trimsAnswer k xs q l ≡ goingOf d k xs ps .answer
+  unfolding trimsAnswer goingOf
+  follow-answer [] d k at = refl
+  follow-answer (x ∷ xs) d k {q} {l} at = go (isDone (trimAnswer x (drop d ps))) refl (λ h. follow-answer xs (d + dropCount x (drop d ps)) (k + 1) (found-next (d + dropCount x (drop d ps)) h))
     where
       m : ℕ
       m = d + dropCount x (drop d ps)
 
       go : (b : Bool) → isDone (trimAnswer x (drop d ps)) ≡ b
-          → (m + 1 < length ps → trimsOf (totals (take m ps)) (k + 1) xs (recordOf (clearedPath m path)) (columnsOf c (clearedPath m path)) ≡ reached (goingOf m (k + 1) xs ps))
-          → trimsOf (totals (take d ps)) k (x ∷ xs) (recordOf (clearedPath d path)) (columnsOf c (clearedPath d path)) ≡ reached (goingOf d k (x ∷ xs) ps)
+          → (m + 1 < length ps → trimsAnswer (k + 1) xs (recordOf (clearedPath m path)) (columnsOf c (clearedPath m path)) ≡ goingOf m (k + 1) xs ps .answer)
+          → trimsAnswer k (x ∷ xs) q l ≡ goingOf d k (x ∷ xs) ps .answer
       go true e i =
-          trims-more path (lists-one p c f s) (lists-sound p c f s) c x d (found-next d h) (totals (take d ps)) k xs e
-          ∙ ap (λ (r : LinkPoint). trimsOf r (k + 1) xs (recordOf (clearedPath m path)) (columnsOf c (clearedPath m path))) (both-totals d (dropCount x (drop d ps)) ps)
+          answer-more path (lists-one p c f s) (lists-sound p c f s) c x d at xs k e
           ∙ i (trim-left x d ps (eqb-true (trimAnswer x (drop d ps) .number) 0 e))
-          ∙ ap reached (sym (going-more ps d k x xs e))
+          ∙ ap (λ (g : Progress). g .answer) (sym (going-more ps d k x xs e))
       go false e i =
-          trims-end path (lists-one p c f s) (lists-sound p c f s) c x d (found-next d h) (totals (take d ps)) k xs e
-          ∙ ap reached (sym (going-ends ps d k x xs e))
+          answer-ends path (lists-one p c f s) (lists-sound p c f s) c x d at xs k e
+          ∙ ap (λ (g : Progress). g .answer) (sym (going-ends ps d k x xs e))
 
-  -- ---- from the first
-  each-ends : (x : Float) (xs : List Float) → isDone (trimAnswer x ps) ≡ false → clearEach (x ∷ xs) p c ≡ noneDone (goingOf 0 0 (x ∷ xs) ps .answer) p c
-  unfolding clearEach
-  each-ends x xs e =
-      trims-end path (lists-one p c f s) (lists-sound p c f s) c x 0 found-first noLinkPoint 0 xs e
-      ∙ ap (λ (g : Progress). noneDone (g .answer) p c) (sym (going-ends ps 0 0 x xs e))
+  -- what the trims xs leave of the path without its first d links
+  abbrev Leaves : List Float → Type 0
+  Leaves xs = (d k : ℕ) → d + 1 < length ps → goingOf d k xs ps .answer .number ≡ 0 → trimsLeave (totals (take d ps)) xs (recordOf (clearedPath d path)) (columnsOf c (clearedPath d path)) ≡ reached (goingOf d k xs ps)
 
-  each-goes : (x : Float) (xs : List Float) → isDone (trimAnswer x ps) ≡ true → clearEach (x ∷ xs) p c ≡ reached (goingOf 0 0 (x ∷ xs) ps)
-  unfolding clearEach totals
-  each-goes x xs e =
-      let d = dropCount x ps in
-      let left? = trim-left x 0 ps (eqb-true (trimAnswer x ps .number) 0 e) in
-      trims-more path (lists-one p c f s) (lists-sound p c f s) c x 0 found-first noLinkPoint 0 xs e
-      ∙ ap (λ (r : LinkPoint). trimsOf r (0 + 1) xs (recordOf (clearedPath (0 + d) path)) (columnsOf c (clearedPath (0 + d) path))) (both-totals 0 d ps)
-      ∙ follow xs (0 + d) (0 + 1) left?
-      ∙ ap reached (sym (going-more ps 0 0 x xs e))
+  pub leave-step : (x : Float) (xs : List Float) → Leaves xs → (d k : ℕ) {q : PathTpc} {l : Columns} → Found path c d q l → goingOf d k (x ∷ xs) ps .answer .number ≡ 0
+      → trimsLeave (totals (take d ps)) (x ∷ xs) q l ≡ reached (goingOf d k (x ∷ xs) ps)
+  leave-step x xs more d k at z =
+      let m = d + dropCount x (drop d ps) in
+      let e = going-first ps d k x xs z in
+      let next = going-more ps d k x xs e in
+      leave-more path (lists-one p c f s) (lists-sound p c f s) c x d at xs (totals (take d ps)) e
+      ∙ ap (λ (r : LinkPoint). trimsLeave r xs (recordOf (clearedPath m path)) (columnsOf c (clearedPath m path))) (both-totals d (dropCount x (drop d ps)) ps)
+      ∙ more m (k + 1) (trim-left x d ps (eqb-true (trimAnswer x (drop d ps) .number) 0 e)) (ap (λ (g : Progress). g .answer .number) (sym next) ∙ z)
+      ∙ ap reached (sym next)
 
-  pub each-none : (xs : List Float) → goingOf 0 0 xs ps .count ≡ 0 → clearEach xs p c ≡ noneDone (goingOf 0 0 xs ps .answer) p c
-  unfolding clearEach trimsOf goingOf
-  each-none [] h = refl
-  each-none (x ∷ xs) h = go (isDone (trimAnswer x ps)) refl
-    where
-      go : (b : Bool) → isDone (trimAnswer x ps) ≡ b → clearEach (x ∷ xs) p c ≡ noneDone (goingOf 0 0 (x ∷ xs) ps .answer) p c
-      go true e = absurd (omega (arith, h, going-count ps xs (0 + dropCount x ps) (0 + 1), ap (λ (g : Progress). g .count) (going-more ps 0 0 x xs e)))
-      go false e = each-ends x xs e
-
-  pub each-some : (xs : List Float) → (goingOf 0 0 xs ps .count ≡ 0 → ⊥) → clearEach xs p c ≡ reached (goingOf 0 0 xs ps)
-  unfolding goingOf
-  each-some [] h = absurd (h refl)
-  each-some (x ∷ xs) h = go (isDone (trimAnswer x ps)) refl
-    where
-      go : (b : Bool) → isDone (trimAnswer x ps) ≡ b → clearEach (x ∷ xs) p c ≡ reached (goingOf 0 0 (x ∷ xs) ps)
-      go true e = each-goes x xs e
-      go false e = absurd (h (ap (λ (g : Progress). g .count) (going-ends ps 0 0 x xs e)))
+  pub follow-leave : (xs : List Float) → Leaves xs
+  unfolding trimsLeave goingOf changed
+  follow-leave [] d k h z = refl
+  follow-leave (x ∷ xs) d k h z = leave-step x xs (follow-leave xs) d k (found-next d h) z

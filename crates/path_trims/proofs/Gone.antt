@@ -11,7 +11,7 @@ use lib.Seq.{drop-cons, getD-drop}
 use lib.Ieee as Ieee
 use lib.Ieee.{Float, nan}
 use lib.Ieee.Scale.{finite}
-use borrow.Author.Tests.{eq-eqb, ne-eqb, eqb-true, leb-true}
+use borrow.Author.Tests.{eq-eqb, ne-eqb, eqb-true, eqb-false, leb-true}
 use Rattle.ieee.specs.Number.{+0}
 use Rattle.ieee.proofs.Order.{of-true}
 use Rattle.link.proofs.Known.{and-both}
@@ -67,19 +67,17 @@ module _ (ps : List LinkPoint) where
     unfolding goingOf
     going-more e = rw e
 
-    pub going-ends : isDone (trimAnswer x (drop d ps)) ≡ false → goingOf d k (x ∷ xs) ps ≡ record { gone = d; count = k; answer = trimAnswer x (drop d ps) }
+    pub going-ends : isDone (trimAnswer x (drop d ps)) ≡ false → goingOf d k (x ∷ xs) ps ≡ record { gone = d; answer = record { number = trimAnswer x (drop d ps) .number; place = k } }
     unfolding goingOf
     going-ends e = rw e
 
-  -- no fewer are done than before
-  pub going-count : (xs : List Float) (d k : ℕ) → k ≤ goingOf d k xs ps .count
-  unfolding goingOf
-  going-count [] d k = omega arith
-  going-count (x ∷ xs) d k = go (isDone (trimAnswer x (drop d ps))) refl (going-count xs (d + dropCount x (drop d ps)) (k + 1))
-    where
-      go : (b : Bool) → isDone (trimAnswer x (drop d ps)) ≡ b → k + 1 ≤ goingOf (d + dropCount x (drop d ps)) (k + 1) xs ps .count → k ≤ goingOf d k (x ∷ xs) ps .count
-      go true e h = omega (arith, ap (λ (g : Progress). g .count) (going-more d k x xs e))
-      go false e h = omega (arith, ap (λ (g : Progress). g .count) (going-ends d k x xs e))
+    -- a list that is done is done with its first
+    pub going-first : goingOf d k (x ∷ xs) ps .answer .number ≡ 0 → isDone (trimAnswer x (drop d ps)) ≡ true
+    going-first z = go (isDone (trimAnswer x (drop d ps))) refl
+      where
+        go : (b : Bool) → isDone (trimAnswer x (drop d ps)) ≡ b → isDone (trimAnswer x (drop d ps)) ≡ true
+        go true e = e
+        go false e = absurd (eqb-false (trimAnswer x (drop d ps) .number) 0 e (ap (λ (g : Progress). g .answer .number) (sym (going-ends e)) ∙ z))
 
   -- a link point stays
   pub going-below : (xs : List Float) (d k : ℕ) → d < length ps → goingOf d k xs ps .gone < length ps
@@ -93,18 +91,18 @@ module _ (ps : List LinkPoint) where
 
   -- ---- the code's loop: those that are left, from link point d on, give the answer of the whole list
   module _ (xs : List Float) (d k : ℕ) (inv : goingOf d k (drop k xs) ps ≡ goingOf 0 0 xs ps) where
-    pub going-all : {a : Answer} → length xs ≤ k → a ≡ done → record { gone = d; count = k; answer = a } ≡ goingOf 0 0 xs ps
+    pub going-all : {a : Answer} → length xs ≤ k → a ≡ done → record { gone = d; answer = a } ≡ goingOf 0 0 xs ps
     unfolding goingOf
-    going-all h e = ap (λ (a : Answer). record { gone = d; count = k; answer = a }) e ∙ ap (λ (l : List Float). goingOf d k l ps) (sym (drop-of-length-le xs h)) ∙ inv
+    going-all h e = ap (λ (a : Answer). record { gone = d; answer = a }) e ∙ ap (λ (l : List Float). goingOf d k l ps) (sym (drop-of-length-le xs h)) ∙ inv
 
     -- the next one is at x, and a is its answer
     module _ {x : Float} {a : Answer} (h : k < length xs) (e : x ≡ getD xs k nan) (asked : a ≡ trimAnswer x (drop d ps)) where
       next-is : goingOf d k (x ∷ drop (k + 1) xs) ps ≡ goingOf 0 0 xs ps
       next-is = ap (λ (l : List Float). goingOf d k l ps) (ap₂ _∷_ e (ap (λ (j : ℕ). drop j xs) (add-one k)) ∙ sym (drop-cons xs k nan h)) ∙ inv
 
-      pub going-refused : (a .number ≡ 0 → ⊥) → record { gone = d; count = k; answer = a } ≡ goingOf 0 0 xs ps
+      pub going-refused : (a .number ≡ 0 → ⊥) → record { gone = d; answer = record { number = a .number; place = k } } ≡ goingOf 0 0 xs ps
       going-refused n =
-          ap (λ (b : Answer). record { gone = d; count = k; answer = b }) asked
+          ap (λ (b : Answer). record { gone = d; answer = record { number = b .number; place = k } }) asked
           ∙ sym (going-ends d k x (drop (k + 1) xs) (ne-eqb (trimAnswer x (drop d ps) .number) 0 (λ z. n (ap (λ (b : Answer). b .number) asked ∙ z))))
           ∙ next-is
 

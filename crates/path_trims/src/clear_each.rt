@@ -1,4 +1,4 @@
-// `clear` at one offset after another: questions 1 and 2 of the path are asked once, and the records move once.
+// `clear` at one offset after another, all or nothing: questions 1 and 2 of the path are asked once, and the records move once.
 use path::answer::asked;
 use path::answer::path_answer;
 use path::link_point::LinkPoint;
@@ -6,29 +6,20 @@ use path::link_point::add_counts;
 use path::path_tpc::Answer;
 use path::path_tpc::PathAnswer;
 use path::path_tpc::PathTpc;
+use path_trim::clear::ClearAnswer;
 use path_trim::clear::cleared;
-use si::Length;
 ghost use mathlib.Core.Path.{_≡_};
 ghost use Prim.Native.Nat.{_+_, _<_};
 ghost use lib.ListN.{drop};
-ghost use Rattle.path.specs.Records.{columns, linkPoints, noLinkPoint};
+ghost use Rattle.path.specs.Records.{columns, linkPoints};
 ghost use Rattle.path.specs.Answers.{left};
-ghost use Rattle.path_trim.specs.Clear.{dropCount};
-ghost use Rattle.path_trims.specs.Going as going;
-ghost use Rattle.path_trims.specs.Trims as spec;
+ghost use Rattle.path_trim.specs.Clear.{Cleared, dropCount};
+ghost use Rattle.path_trims.specs.Going as spec;
+ghost use Rattle.path_trims.specs.Trims.{clearEach};
 
-// What a list of trims answers: the answer of the last one made with the path's record, the counts of all links that went, and how many trims were done.
-#[repr(C)]
-pub struct TrimsAnswer {
-    pub outcome: PathAnswer,
-    pub dropped: LinkPoint,
-    pub count: usize,
-}
-
-// How far the trims get: so many link points go, so many trims are done, and what the next one answers.
+// How far the trims of a list get: so many link points go, where none is refused; and the answer.
 struct Progress {
     gone: usize,
-    count: usize,
     answer: Answer,
 }
 
@@ -50,7 +41,7 @@ fn drop_from(offsets: &[f64], numbers: &[u32], n: usize, from: usize, x: f64) ->
 // Questions 1, 10 and 12 of a trim behind x, where `from` of n link points are gone.
 fn trim_answer(offsets: &[f64], numbers: &[u32], n: usize, from: usize, x: f64) -> Answer
     requires { ⌜ from < n ⌝ }
-    ensures { λ r. ⌜ r ≡ going.trimAnswer x (drop from (linkPoints n (now (offsets .entry)) (now (numbers .entry)))) ⌝ }
+    ensures { λ r. ⌜ r ≡ spec.trimAnswer x (drop from (linkPoints n (now (offsets .entry)) (now (numbers .entry)))) ⌝ }
 {
     if !ieee::is_finite(x) {
         return asked(1, false);
@@ -66,7 +57,7 @@ fn trim_answer(offsets: &[f64], numbers: &[u32], n: usize, from: usize, x: f64) 
 // The trims of a sound path with n link points, without moving anything.
 fn going(xs: &[f64], offsets: &[f64], numbers: &[u32], n: usize) -> Progress
     requires { ⌜ 0 < n ⌝ }
-    ensures { λ r. ⌜ r ≡ going.goingOf 0 0 (now (xs .entry)) (linkPoints n (now (offsets .entry)) (now (numbers .entry))) ⌝ }
+    ensures { λ r. ⌜ r ≡ spec.goingOf 0 0 (now (xs .entry)) (linkPoints n (now (offsets .entry)) (now (numbers .entry))) ⌝ }
 {
     let mut gone = 0;
     let mut k = 0;
@@ -76,8 +67,10 @@ fn going(xs: &[f64], offsets: &[f64], numbers: &[u32], n: usize) -> Progress
         if answer.number != 0 {
             return Progress {
                 gone,
-                count: k,
-                answer,
+                answer: Answer {
+                    number: answer.number,
+                    place: k,
+                },
             };
         }
         gone = drop_from(offsets, numbers, n, gone, x);
@@ -85,29 +78,56 @@ fn going(xs: &[f64], offsets: &[f64], numbers: &[u32], n: usize) -> Progress
     }
     Progress {
         gone,
-        count: k,
         answer: asked(12, true),
     }
 }
 
-// No trim is done: the answer, with the path as it came.
-fn none_done(p: PathTpc, answer: Answer) -> TrimsAnswer
-    ensures { λ r. ⌜ (r .outcome ≡ record { answer = answer; path = p }) × (r .dropped ≡ noLinkPoint) × (r .count ≡ 0) ⌝ }
+// Question 1 of a list's first offset, which the first trim asks with the path's numbers.
+fn first_finite(xs: &[f64]) -> bool
+    ensures { λ r. ⌜ r ≡ spec.firstFinite (now (xs .entry)) ⌝ }
 {
-    TrimsAnswer {
-        outcome: PathAnswer { answer, path: p },
-        dropped: LinkPoint {
-            offset: Length(0.0),
-            grade_count: 0,
-            curve_count: 0,
-            cat_power_count: 0,
-            link_idx: 0,
-        },
-        count: 0,
+    if xs.len() == 0 {
+        return true;
     }
+    ieee::is_finite(xs[0])
 }
 
-// Drops the links behind each offset of a list in turn; the first refusal ends it.
+// Every question of a list of trims: 1 and 2 of the path once, and then those of each trim in turn.
+fn judge_trims(
+    p: PathTpc,
+    xs: &[f64],
+    offsets: &[f64],
+    numbers: &[u32],
+    grades: &[f64],
+    curves: &[f64],
+    speeds: &[f64],
+    powers: &[f64],
+    districts: &[u32],
+) -> Progress
+    ensures { λ r. ⌜ r ≡ spec.progressOf (now (xs .entry)) p (columns (now (offsets .entry)) (now (numbers .entry)) (now (grades .entry)) (now (curves .entry)) (now (speeds .entry)) (now (powers .entry)) (now (districts .entry))) ⌝ }
+{
+    let finite = first_finite(xs);
+    let first = path_answer(
+        p,
+        finite,
+        offsets,
+        numbers,
+        grades,
+        curves,
+        speeds,
+        powers,
+        districts,
+    );
+    if first.number != 0 {
+        return Progress {
+            gone: 0,
+            answer: first,
+        };
+    }
+    going(xs, offsets, numbers, p.link_count)
+}
+
+// Drops the links behind each offset of a list in turn: all of them, or none where a trim is refused.
 pub fn clear_each(
     p: PathTpc,
     xs: &[f64],
@@ -118,16 +138,12 @@ pub fn clear_each(
     speeds: &mut [f64],
     powers: &mut [f64],
     districts: &mut [u32],
-) -> TrimsAnswer
-    ensures { λ r. ⌜ _≡_ {A = spec.Trimmed} (record { outcome = left (r .outcome) (columns (now (offsets .exit)) (now (numbers .exit)) (now (grades .exit)) (now (curves .exit)) (now (speeds .exit)) (now (powers .exit)) (now (districts .exit))); dropped = r .dropped; count = r .count }) (spec.clearEach (now (xs .entry)) p (columns (now (offsets .entry)) (now (numbers .entry)) (now (grades .entry)) (now (curves .entry)) (now (speeds .entry)) (now (powers .entry)) (now (districts .entry)))) ⌝ }
+) -> ClearAnswer
+    ensures { λ r. ⌜ _≡_ {A = Cleared} (record { outcome = left (r .outcome) (columns (now (offsets .exit)) (now (numbers .exit)) (now (grades .exit)) (now (curves .exit)) (now (speeds .exit)) (now (powers .exit)) (now (districts .exit))); dropped = r .dropped }) (clearEach (now (xs .entry)) p (columns (now (offsets .entry)) (now (numbers .entry)) (now (grades .entry)) (now (curves .entry)) (now (speeds .entry)) (now (powers .entry)) (now (districts .entry)))) ⌝ }
 {
-    if xs.len() == 0 {
-        return none_done(p, asked(12, true));
-    }
-    let finite = ieee::is_finite(xs[0]);
-    let first = path_answer(
+    let g = judge_trims(
         p,
-        finite,
+        xs,
         &*offsets,
         &*numbers,
         &*grades,
@@ -136,16 +152,15 @@ pub fn clear_each(
         &*powers,
         &*districts,
     );
-    if first.number != 0 {
-        return none_done(p, first);
-    }
-    let g = going(xs, &*offsets, &*numbers, p.link_count);
     let answer = g.answer;
-    if g.count == 0 {
-        return none_done(p, answer);
+    if answer.number != 0 {
+        return ClearAnswer {
+            outcome: PathAnswer { answer, path: p },
+            dropped: add_counts(&*offsets, &*numbers, 0),
+        };
     }
     let dropped = add_counts(&*offsets, &*numbers, g.gone);
-    let done = cleared(
+    let outcome = cleared(
         p,
         g.gone,
         dropped,
@@ -157,10 +172,5 @@ pub fn clear_each(
         &mut *powers,
         &mut *districts,
     );
-    let path = done.path;
-    TrimsAnswer {
-        outcome: PathAnswer { answer, path },
-        dropped,
-        count: g.count,
-    }
+    ClearAnswer { outcome, dropped }
 }

@@ -1,6 +1,7 @@
-// Searches, resistance and positions: each call done, and refused by each of its questions, printed as the code answers.
+// Searches, resistance, positions and lists of trims: each call done, and refused by each of its questions, printed as the code answers.
 mod list_rows; // searches, Point and Strap
 mod position_rows; // positions on a path
+mod trim_rows; // lists of trims on a path
 mod answers; // an answer as it is printed
 
 fn main() {
@@ -8,4 +9,5 @@ fn main() {
     list_rows::points();
     list_rows::straps();
     position_rows::positions();
+    trim_rows::trims();
 }

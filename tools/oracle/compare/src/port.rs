@@ -43,7 +43,7 @@ pub fn finish(path: PathTpc, c: &mut Cols) -> PathAnswer {
 pub fn clear(path: PathTpc, offset: f64, c: &mut Cols) -> ClearAnswer {
     with_columns!(mochaspit_clear, c, lent, path, offset)
 }
-pub fn clear_each(path: PathTpc, xs: &[f64], c: &mut Cols) -> TrimsAnswer {
+pub fn clear_each(path: PathTpc, xs: &[f64], c: &mut Cols) -> ClearAnswer {
     with_columns!(mochaspit_clear_each, c, lent, path, xs.as_ptr(), xs.len())
 }
 pub fn reindex(path: PathTpc, new: &[u32], c: &mut Cols) -> PathAnswer {
@@ -108,6 +108,43 @@ fn row(a: Answer, rest: &[u64]) -> Vec<u64> {
     v
 }
 
+fn dropped_words(d: &LinkPoint) -> [u64; 5] {
+    [d.offset.to_bits(), d.grade_count as u64, d.curve_count as u64, d.cat_power_count as u64, d.link_idx as u64]
+}
+
+/// Lists of trims that begin at x are so many calls of `clear`: all of them, or the first refusal at its position and nothing changed.
+fn trims_as_calls(path: PathTpc, x: f64, c: &Cols) {
+    for xs in [&[x][..], &[x, x], &[x, f64::NAN, x], &[x, x * 0.5], &[x, x * 1.5, x * 2.0, x * 3.0]] {
+        let (mut each, mut turn) = (c.clone(), c.clone());
+        let in_one = clear_each(path, xs, &mut each);
+        let (mut p, mut gone, mut end) = (path, [0; 5], (0, 0));
+        for (k, y) in xs.iter().enumerate() {
+            let a = clear(p, *y, &mut turn);
+            if a.outcome.answer.number != 0 {
+                end = (a.outcome.answer.number, k);
+                break;
+            }
+            p = a.outcome.path;
+            gone.iter_mut().zip(dropped_words(&a.dropped)).for_each(|(g, d)| *g += d);
+        }
+        let refused = end.0 != 0;
+        let (p, gone, turn) = if refused { (path, [0; 5], c.clone()) } else { (p, gone, turn) };
+        assert_eq!((in_one.outcome.answer.number, in_one.outcome.answer.place), end, "the answer of a list of trims differs");
+        assert!(each.differ(&turn).is_empty() && in_one.outcome.path == p && dropped_words(&in_one.dropped) == gone, "a list of trims differs");
+    }
+}
+
+/// A list without an offset asks questions 1 and 2 of the path and leaves what an empty extension of an open path leaves.
+fn no_trims(path: PathTpc, t: Train, c: &Cols, f: &Flat) {
+    let (mut each, mut joined) = (c.clone(), c.clone());
+    let a = clear_each(path, &[], &mut each).outcome;
+    let b = extend(path, t, &[], &mut joined, f);
+    // 1 may be the train's, and a finished path cannot be extended
+    if b.answer.number != 1 && b.answer.number != 3 {
+        assert!((a.answer.number, a.answer.place) == (b.answer.number, 0) && a.path == b.path && each.differ(&joined).is_empty(), "no trims differ");
+    }
+}
+
 /// A call on a path: number, place and the words of what it hands back, and the record to go on with.
 pub fn path_call(call: &Call, path: PathTpc, t: Train, c: &mut Cols, f: &Flat) -> (Vec<u64>, PathTpc) {
     let plain = |a: PathAnswer| (row(a.answer, &path_words(&a.path)), a.path);
@@ -116,17 +153,11 @@ pub fn path_call(call: &Call, path: PathTpc, t: Train, c: &mut Cols, f: &Flat) -
         Call::New => plain(new(t, c)),
         Call::Extend(l) => plain(extend(path, t, l, c, f)),
         Call::Clear(x) => {
-            let mut each = c.clone();
-            let twice = clear_each(path, &[*x, *x], &mut each);
+            trims_as_calls(path, *x, c);
+            no_trims(path, t, c, f);
             let a = clear(path, *x, c);
-            // a second trim at the same offset drops nothing more
-            let (d, e) = (a.dropped, twice.dropped);
-            assert_eq!((d.grade_count, d.curve_count, d.cat_power_count), (e.grade_count, e.curve_count, e.cat_power_count));
-            assert!(each.differ(c).is_empty() && twice.outcome.path == a.outcome.path, "a list of trims differs");
-            assert_eq!((twice.outcome.answer.number, twice.count), (a.outcome.answer.number, if a.outcome.answer.number == 0 { 2 } else { 0 }));
             let (mut v, p) = plain(a.outcome);
-            let d = a.dropped;
-            v.extend([d.offset.to_bits(), d.grade_count as u64, d.curve_count as u64, d.cat_power_count as u64, d.link_idx as u64]);
+            v.extend(dropped_words(&a.dropped));
             (v, p)
         }
         Call::Finish => plain(finish(path, c)),

@@ -98,7 +98,7 @@ fn plan() {
         s.path = port::new(t, &mut s.cols).path;
         s.path = port::extend(s.path, t, &list, &mut s.cols, &table.flat).path;
         let a = port::clear_each(s.path, &trims, &mut s.cols);
-        assert_eq!((a.outcome.answer.number, a.count), (0, trims.len()));
+        assert_eq!(a.outcome.answer.number, 0);
         s.path = port::finish(a.outcome.path, &mut s.cols).path;
     };
     let mut s = empty();

@@ -1,4 +1,4 @@
--- What document 01's questions have settled of the calls that were done, said of the book that each met. Definitions only.
+-- What the questions have settled of the calls that were done, said of the book that each met. Definitions that only the proofs need.
 use Prim.Native.Nat.{ℕ, _≤_}
 use mathlib.Core.Path.{_≡_}
 use mathlib.Core.Bool.{true}
