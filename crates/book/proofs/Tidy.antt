@@ -1,24 +1,17 @@
 -- On every path of demand 3 the columns have zeros past the counts.
-use Prim.Native.Nat.{ℕ, _+_, _-_}
-use native.Mathlib.Omega.{arith}
 use mathlib.Core.Path.{_≡_, refl, sym, ap, _∙_}
 use mathlib.Core.Bool.{Bool, true, false}
-use mathlib.Core.List.{List, [], _∷_, _++_, map}
+use mathlib.Core.List.{List, [], _∷_}
 use lib.Dec.{eqb}
-use lib.ListN.{length, replicate, length-append, length-replicate}
 use borrow.Author.Tests.{eqb-true, eqb-false}
-use Rattle.ieee.specs.Number.{+0}
-use Rattle.column.specs.Entries.{filled}
-use Rattle.column.specs.Records.{flat, three, four}
-use Rattle.speed.specs.Column.{pair}
-use Rattle.lookup.specs.Coeff.{triple}
 use Rattle.link.specs.declared.train_params.TrainParams.{TrainParams}
 use Rattle.path.specs.declared.path_tpc.PathTpc.{PathTpc}
 use Rattle.path.specs.declared.path_tpc.Answer.{Answer}
-use Rattle.path.specs.Records.{Columns, offsetOf, fourOf, threeOf, Path, pathOf, columnsOf, recordOf}
+use Rattle.path.specs.Records.{Columns, Path, pathOf, columnsOf}
 use Rattle.path.specs.Answers.{isDone, Outcome, outcome, changed}
 use Rattle.path.proofs.InTurn.{outcome-refused, outcome-changed}
 use Rattle.path.proofs.ReadBack.{read-back}
+use Rattle.path.proofs.Tidied.{written-again}
 use Rattle.path_trim.specs.New.{newPath, newAnswer, noPath, newOf}
 use Rattle.path_trim.specs.Finish.{finishedPath, finishAnswer, finishOf}
 use Rattle.path_trim.specs.Clear.{dropCount, clearedPath, clearAnswer, clearOf}
@@ -28,26 +21,6 @@ use Rattle.path_extend.specs.Extend.{extendAnswer, extendOf}
 use Rattle.book.specs.Book.{Call}
 use Rattle.book.specs.Book.Call.{extend, clear, reindex, finish}
 use Rattle.book.specs.Demand.{callOf, run, ranFromNew}
-
--- entries filled up are as many as they were, or as many as they are filled up to
-filled-again : {A : Type 0} (z : A) (n : ℕ) (es : List A) → filled z (length (filled z n es)) es ≡ filled z n es
-unfolding filled
-filled-again z n es =
-    let e : length (es ++ replicate (n - length es) z) - length es ≡ n - length es = omega (arith, length-append es (replicate (n - length es) z), length-replicate (n - length es) z) in
-    ap (λ (k : ℕ). es ++ replicate k z) e
-
-written-again : (c : Columns) (after : Path) → columnsOf (columnsOf c after) after ≡ columnsOf c after
-unfolding columnsOf
-written-again c after =
-    cc (
-      filled-again +0 (length (c .offsets)) (map offsetOf (after .links)),
-      filled-again 0 (length (c .numbers)) (flat four (map fourOf (after .links))),
-      filled-again +0 (length (c .grades)) (flat triple (after .grades)),
-      filled-again +0 (length (c .curves)) (flat triple (after .curves)),
-      filled-again +0 (length (c .speeds)) (flat pair (after .speeds)),
-      filled-again +0 (length (c .powers)) (flat three (map threeOf (after .powers))),
-      filled-again 0 (length (c .districts)) (map (λ p. p .district) (after .powers)),
-    )
 
 -- zeros past the counts
 abbrev pub Tidy : PathTpc → Columns → Type 0

@@ -30,6 +30,13 @@ module _ {A : Type 0} (z : A) where
   unfolding filled
   length-filled n es h = length-append es (replicate (n - length es) z) ∙ omega (arith, length-replicate (n - length es) z)
 
+  -- filled up again to where they were filled up
+  pub filled-again : (n : ℕ) (es : List A) → filled z (length (filled z n es)) es ≡ filled z n es
+  unfolding filled
+  filled-again n es =
+      let e : length (es ++ replicate (n - length es) z) - length es ≡ n - length es = omega (arith, length-append es (replicate (n - length es) z), length-replicate (n - length es) z) in
+      ap (λ (k : ℕ). es ++ replicate k z) e
+
   -- ---- from a place to the end
   pub zero-is : (i : ℕ) (l : List A) → zeroFrom z i l ≡ take i l ++ replicate (length l - i) z
   unfolding zeroFrom filled

@@ -6,7 +6,7 @@ use mathlib.Core.List.{map}
 use lib.ListN.{length, length-map}
 use Rattle.ieee.specs.Number.{+0}
 use Rattle.column.specs.Records.{flat, three, four}
-use Rattle.column.proofs.Filling.{length-filled}
+use Rattle.column.proofs.Filling.{length-filled, filled-again}
 use Rattle.column.proofs.Bridge.{three-lawful, four-lawful, length-flat}
 use Rattle.speed.specs.Column.{pair}
 use Rattle.speed.proofs.Held.{pair-lawful}
@@ -43,6 +43,20 @@ module _ {l c : Columns} (e : Long l c) where
   pub within-long : (p : PathTpc) → withinBounds p l ≡ withinBounds p c
   unfolding withinBounds
   within-long p = rw (e .offsets, e .numbers, e .grades, e .curves, e .speeds, e .powers, e .districts)
+
+-- written twice is written once
+pub written-again : (c : Columns) (after : Path) → columnsOf (columnsOf c after) after ≡ columnsOf c after
+unfolding columnsOf
+written-again c after =
+    cc (
+      filled-again +0 (length (c .offsets)) (map offsetOf (after .links)),
+      filled-again 0 (length (c .numbers)) (flat four (map fourOf (after .links))),
+      filled-again +0 (length (c .grades)) (flat triple (after .grades)),
+      filled-again +0 (length (c .curves)) (flat triple (after .curves)),
+      filled-again +0 (length (c .speeds)) (flat pair (after .speeds)),
+      filled-again +0 (length (c .powers)) (flat three (map threeOf (after .powers))),
+      filled-again 0 (length (c .districts)) (map (λ p. p .district) (after .powers)),
+    )
 
 -- a path that is written to columns in which it fits: they stay as long as they were
 module _ (c : Columns) (after : Path) (h : withinBounds (recordOf after) c ≡ true) where
