@@ -30,7 +30,8 @@ use Rattle.path_speeds.specs.Limits.{setsOf, countAt}
 use Rattle.path_join.specs.Listed.{gradesIn, curvesIn, powersIn, sumOf}
 use Rattle.path_join.specs.Joined.{startingNet, started}
 use Rattle.path_extend.specs.Sums.{frontOf, sumsFrom}
-use Rattle.path_extend.specs.Extend.{recordsFit, followed, sumsAnswer, extendAnswer, startFront}
+use Rattle.path_extend.specs.Extend.{recordsFit, followed, sumsAnswer, extendAnswer}
+use Rattle.path_extend.specs.Steps.{startFront}
 use Rattle.path_extend.proofs.Assembled.{last-start}
 use Rattle.path.proofs.Counts.{last-record}
 use Rattle.path_extend.proofs.Fronts.{same-front}

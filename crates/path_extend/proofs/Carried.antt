@@ -23,7 +23,8 @@ use Rattle.path_stretches.specs.Powers.{powerFinite}
 use Rattle.path_join.specs.Listed.{lengthAt}
 use Rattle.path_extend.specs.declared.front.Front.{Front}
 use Rattle.path_extend.specs.declared.front.Walked.{Walked}
-use Rattle.path_extend.specs.Sums.{front, frontAfter, sumsFinite, walked, sumsFrom}
+use Rattle.path_extend.specs.Sums.{front, frontAfter, sumsFinite, sumsFrom}
+use Rattle.path_extend.specs.Steps.{walked}
 use Rattle.path_join.proofs.Left.{left-next}
 
 module _ (train : TrainParams) (t : LinkTable) (at : Front) where

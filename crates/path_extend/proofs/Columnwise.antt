@@ -11,7 +11,8 @@ use Rattle.link.specs.Table.{LinkTable}
 use Rattle.path.specs.Records.{Path, lastCoeff}
 use Rattle.path_stretches.specs.Stretches.{stretches}
 use Rattle.path_join.specs.Listed.{Rises, risesOf, lengthAt, samplesAt, gradeEnd}
-use Rattle.path_join.specs.Joined.{joinRecords, joinPowers, join, joinAll, joinedPoints, joinedRecords, joinedPowers}
+use Rattle.path_join.specs.Joined.{joinRecords, joinPowers, join, joinAll}
+use Rattle.path_join.specs.ByKind.{joinedPoints, joinedRecords, joinedPowers}
 use Rattle.path_stretches.proofs.Ended.{stands-after}
 use Rattle.path_extend.proofs.Ending.{stretches-end}
 

@@ -8,13 +8,14 @@ use Rattle.link.specs.Table.{LinkTable}
 use Rattle.path.specs.declared.path_tpc.PathTpc.{PathTpc}
 use Rattle.path.specs.declared.path_tpc.Answer.{Answer}
 use Rattle.path.specs.Records.{Columns, Path, pathOf, columnsOf}
-use Rattle.path.specs.Answers.{done, left, changed}
+use Rattle.path.specs.Answers.{left, changed}
 use Rattle.path.specs.Sound.{sound, withinBounds}
 use Rattle.path.proofs.InTurn.{outcome-refused, outcome-changed}
 use Rattle.path.proofs.Clauses.{sound-within}
 use Rattle.path_speeds.proofs.Few.{all-few}
 use Rattle.path_join.specs.Joined.{started, joinAll}
-use Rattle.path_extend.specs.Extend.{recordsFit, Ready, doneWith, extendAnswer, extendOf}
+use Rattle.path_extend.specs.Extend.{recordsFit, extendAnswer, extendOf}
+use Rattle.path_extend.specs.Steps.{Ready, doneWith}
 use Rattle.path_extend.proofs.Asked.{Settled, settled}
 use Rattle.path.proofs.Tidied.{Long, changed-long, tidy-long, tidy-again, tidy-sound}
 use Rattle.path.proofs.ReadBack.{read-again}

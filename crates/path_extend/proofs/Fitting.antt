@@ -16,7 +16,8 @@ use Rattle.path_speeds.specs.Limits.{SpeedSets, setsOf, countAt}
 use Rattle.path_speeds.proofs.Applying.{count-small}
 use Rattle.path_join.specs.Listed.{gradesIn, curvesIn, powersIn, sumOf}
 use Rattle.path_extend.specs.declared.fit.Counts.{Counts}
-use Rattle.path_extend.specs.Extend.{recordsFit, countsOf}
+use Rattle.path_extend.specs.Extend.{recordsFit}
+use Rattle.path_extend.specs.Steps.{countsOf}
 use Rattle.path_extend.proofs.Summed.{sum-small, grades-small, curves-small, powers-small}
 
 module _ (train : TrainParams) (t : LinkTable) (ns : List ℕ) (p : PathTpc) (c : Columns) where

@@ -19,7 +19,8 @@ use Rattle.path.specs.Records.{Path, linkPoint, offsetOf, noLinkPoint, endPoint
 use Rattle.path.specs.Sound.{total}
 use Rattle.path_speeds.specs.Limits.{SpeedSets, setsOf, layAll, layingAt, layLinks, fewAt, countAt, pointFew, pointCount}
 use Rattle.path_join.specs.Listed.{lengthAt, gradesIn, curvesIn, powersIn, sumOf}
-use Rattle.path_join.specs.Joined.{joinPoint, join, joinAll, joinedPoints}
+use Rattle.path_join.specs.Joined.{joinPoint, join, joinAll}
+use Rattle.path_join.specs.ByKind.{joinedPoints}
 use Rattle.path_stretches.proofs.Ended.{last-snoc}
 
 -- ---- link points behind an end point e

@@ -23,8 +23,8 @@ use Rattle.path.proofs.Clauses.{sound-within, room}
 use Rattle.path_speeds.specs.Limits.{setsOf, countAt, pointFew, pointCount}
 use Rattle.path_stretches.specs.Powers.{HoldsPowers}
 use Rattle.path_join.specs.Listed.{recordsIn, powersIn, sumOf}
-use Rattle.path_join.specs.Joined.{HoldsPoints}
-use Rattle.path_extend.specs.Extend.{Ready}
+use Rattle.path_join.specs.ByKind.{HoldsPoints}
+use Rattle.path_extend.specs.Steps.{Ready}
 use Rattle.path_extend.proofs.NewPoints.{newPoints, points-few, points-counted}
 use Rattle.path_extend.proofs.Assembled.{oldPoints, allPoints, new-range, own-numbers, counts}
 use Rattle.path_extend.proofs.Asked.{Fit, fit-all}

@@ -11,7 +11,7 @@ use mir.Val.{Fits}
 use Rattle.link.specs.Table.{numbersOf}
 use Rattle.path_stretches.specs.Stretches.{recordCount}
 use Rattle.path_join.specs.Listed.{gradesIn, curvesIn, powersIn, sumOf}
-use Rattle.path_extend.specs.Extend.{countsOf}
+use Rattle.path_extend.specs.Steps.{countsOf}
 use Rattle.path_join.proofs.Left.{left-next}
 
 module _ (figure : ℕ → ℕ) where

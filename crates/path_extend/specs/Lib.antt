@@ -1,3 +1,4 @@
 -- The definitions of the crate `path_extend`: links joined to a path's end.
 pub mod Sums
 pub mod Extend
+pub mod Steps

@@ -18,7 +18,6 @@ use Rattle.path_stretches.specs.Stretches.{stretches, offsetAfter, netAfter, is
 use Rattle.path_stretches.specs.Powers.{powerFinite}
 use Rattle.path_join.specs.Listed.{lengthAt, elevsAt, headingsAt, powersAt}
 use Rattle.path_extend.specs.declared.front.Front.{Front}
-use Rattle.path_extend.specs.declared.front.Walked.{Walked}
 
 -- where the path stands when a link is joined: the last link point's offset, the last grade record's offset, and the last net values
 abbrev pub front : Float → Float → Float → Float → Front
@@ -52,10 +51,6 @@ sumsFinite train t at n =
     finiteAt train (lengthOf train) (setsOf t) (at .link .0) n
     && ((finite (endAt t at n) && Ieee.lt (at .link .0) (endAt t at n))
     && (every isFinite (gradesAt train t at n) && (every isFinite (curvesAt train t at n) && every (powerFinite (at .grade .0)) (powersAt (t .links) (t .powers) (t .districts) n))))
-
--- both, as the code answers
-abbrev pub walked : TrainParams → LinkTable → Front → ℕ → Walked
-walked train t at n = record { finite = sumsFinite train t at n; front = frontAfter train t at n }
 
 unfoldable pub sumsFrom : TrainParams → LinkTable → Front → List ℕ → List Bool
 unfolding sumsFinite frontAfter

@@ -28,13 +28,13 @@ ghost use mathlib.Core.Bool.{true};
 ghost use Prim.Native.Nat.{_<_};
 ghost use Rattle.link.specs.Lists.{every};
 ghost use Rattle.link.specs.Table.{tableOf};
-ghost use Rattle.path.specs.Records.{Columns, columns, linkPoints, pathOf};
+ghost use Rattle.path.specs.Records.{columns, linkPoints, pathOf};
 ghost use Rattle.path.specs.Answers.{Outcome, left, changed};
 ghost use Rattle.path.specs.Sound.{sound};
 ghost use Rattle.path_speeds.specs.Limits.{setsOf, fewAt};
 ghost use Rattle.path_join.specs.Joined.{started, joinAll};
-ghost use Rattle.path_extend.specs.Sums.{frontOf};
 ghost use Rattle.path_extend.specs.Extend as spec;
+ghost use Rattle.path_extend.specs.Steps as steps;
 
 // Question 5 of the listed links: each follows the one before, the first the path's last link where it has one.
 fn follow_question(
@@ -66,7 +66,7 @@ fn start_front(
     requires { ⌜ 0 < p .«link_count» ⌝ }
     requires { ⌜ 0 < p .«grade_count» ⌝ }
     requires { ⌜ 0 < p .«curve_count» ⌝ }
-    ensures { λ r. ⌜ r ≡ spec.startFront p (now (links .entry)) (now (elevs .entry)) (now (list .entry)) (now (offsets .entry)) (now (grades .entry)) (now (curves .entry)) ⌝ }
+    ensures { λ r. ⌜ r ≡ steps.startFront p (now (links .entry)) (now (elevs .entry)) (now (list .entry)) (now (offsets .entry)) (now (grades .entry)) (now (curves .entry)) ⌝ }
 {
     let grade = coeff_at(grades, p.grade_count - 1);
     let curve = coeff_at(curves, p.curve_count - 1);
@@ -262,8 +262,8 @@ fn joined(
     regions: &[u32],
 ) -> PathTpc
     requires { ⌜ sound p (columns (now offsets) (now numbers) (now grades) (now curves) (now speeds) (now powers) (now districts)) ≡ true ⌝ }
-    requires { ⌜ spec.Ready train (tableOf (now links) (now lengths) (now sets) (now elevs) (now headings) (now limits) (now codes) (now values) (now pool) (now regions)) (now list) p (columns (now offsets) (now numbers) (now grades) (now curves) (now speeds) (now powers) (now districts)) ⌝ }
-    ensures { λ r. ⌜ _≡_ {A = Outcome} (left (spec.doneWith r) (columns (now (offsets .exit)) (now (numbers .exit)) (now (grades .exit)) (now (curves .exit)) (now (speeds .exit)) (now (powers .exit)) (now (districts .exit)))) (changed (columns (now (offsets .entry)) (now (numbers .entry)) (now (grades .entry)) (now (curves .entry)) (now (speeds .entry)) (now (powers .entry)) (now (districts .entry))) (joinAll train (tableOf (now (links .entry)) (now (lengths .entry)) (now (sets .entry)) (now (elevs .entry)) (now (headings .entry)) (now (limits .entry)) (now (codes .entry)) (now (values .entry)) (now (pool .entry)) (now (regions .entry))) (started (tableOf (now (links .entry)) (now (lengths .entry)) (now (sets .entry)) (now (elevs .entry)) (now (headings .entry)) (now (limits .entry)) (now (codes .entry)) (now (values .entry)) (now (pool .entry)) (now (regions .entry))) (pathOf p (columns (now (offsets .entry)) (now (numbers .entry)) (now (grades .entry)) (now (curves .entry)) (now (speeds .entry)) (now (powers .entry)) (now (districts .entry)))) (now (list .entry))) (now (list .entry)))) ⌝ }
+    requires { ⌜ steps.Ready train (tableOf (now links) (now lengths) (now sets) (now elevs) (now headings) (now limits) (now codes) (now values) (now pool) (now regions)) (now list) p (columns (now offsets) (now numbers) (now grades) (now curves) (now speeds) (now powers) (now districts)) ⌝ }
+    ensures { λ r. ⌜ _≡_ {A = Outcome} (left (steps.doneWith r) (columns (now (offsets .exit)) (now (numbers .exit)) (now (grades .exit)) (now (curves .exit)) (now (speeds .exit)) (now (powers .exit)) (now (districts .exit)))) (changed (columns (now (offsets .entry)) (now (numbers .entry)) (now (grades .entry)) (now (curves .entry)) (now (speeds .entry)) (now (powers .entry)) (now (districts .entry))) (joinAll train (tableOf (now (links .entry)) (now (lengths .entry)) (now (sets .entry)) (now (elevs .entry)) (now (headings .entry)) (now (limits .entry)) (now (codes .entry)) (now (values .entry)) (now (pool .entry)) (now (regions .entry))) (started (tableOf (now (links .entry)) (now (lengths .entry)) (now (sets .entry)) (now (elevs .entry)) (now (headings .entry)) (now (limits .entry)) (now (codes .entry)) (now (values .entry)) (now (pool .entry)) (now (regions .entry))) (pathOf p (columns (now (offsets .entry)) (now (numbers .entry)) (now (grades .entry)) (now (curves .entry)) (now (speeds .entry)) (now (powers .entry)) (now (districts .entry)))) (now (list .entry))) (now (list .entry)))) ⌝ }
 {
     let begin = Length(coeff_at(&*grades, p.grade_count - 1).offset.0);
     join_points(

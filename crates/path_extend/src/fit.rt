@@ -14,7 +14,8 @@ ghost use Rattle.path_speeds.specs.Limits.{speedSets, setsOf, fewAt, countAt};
 ghost use Rattle.link.specs.Table.{tableOf};
 ghost use Rattle.path.specs.Records.{columns};
 ghost use Rattle.path.specs.Sound.{withinBounds};
-ghost use Rattle.path_extend.specs.Extend.{recordsFit, countsOf};
+ghost use Rattle.path_extend.specs.Extend.{recordsFit};
+ghost use Rattle.path_extend.specs.Steps.{countsOf};
 ghost use Rattle.path_join.specs.Listed.{sumOf};
 
 // How many grades, curves and power limits links have.

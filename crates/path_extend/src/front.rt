@@ -13,6 +13,7 @@ ghost use Rattle.link.specs.Lists.{every, firstNo};
 ghost use Rattle.link.specs.Table.{tableOf};
 ghost use Rattle.path_speeds.specs.Limits.{setsOf, fewAt};
 ghost use Rattle.path_extend.specs.Sums as spec;
+ghost use Rattle.path_extend.specs.Steps.{walked};
 
 // Where the path stands when a link is joined.
 pub struct Front {
@@ -46,7 +47,7 @@ fn walk_link(
 ) -> Walked
     requires { ⌜ i < 2 ^ 40 ⌝ }
     requires { ⌜ fewAt train (setsOf (tableOf (now links) (now lengths) (now sets) (now elevs) (now headings) (now limits) (now codes) (now values) (now pool) (now regions))) i ≡ true ⌝ }
-    ensures { λ r. ⌜ r ≡ spec.walked train (tableOf (now (links .entry)) (now (lengths .entry)) (now (sets .entry)) (now (elevs .entry)) (now (headings .entry)) (now (limits .entry)) (now (codes .entry)) (now (values .entry)) (now (pool .entry)) (now (regions .entry))) at i ⌝ }
+    ensures { λ r. ⌜ r ≡ walked train (tableOf (now (links .entry)) (now (lengths .entry)) (now (sets .entry)) (now (elevs .entry)) (now (headings .entry)) (now (limits .entry)) (now (codes .entry)) (now (values .entry)) (now (pool .entry)) (now (regions .entry))) at i ⌝ }
 {
     let l = link_numbers(links, i);
     let length = Length(column::floats::get(lengths, i));

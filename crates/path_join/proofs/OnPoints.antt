@@ -18,7 +18,8 @@ use Rattle.path.specs.declared.link_point.LinkPoint.{LinkPoint}
 use Rattle.path.specs.Records.{linkPoint, offsetOf, fourOf, linkPoints, noLinkPoint, endPoint}
 use Rattle.path.proofs.LinkPoints.{length-links, end-at, links-back}
 use Rattle.path_stretches.specs.Stretches.{recordCount}
-use Rattle.path_join.specs.Joined.{joinPoint, joinedPoints, HoldsPoints}
+use Rattle.path_join.specs.Joined.{joinPoint}
+use Rattle.path_join.specs.ByKind.{joinedPoints, HoldsPoints}
 use Rattle.column.proofs.Filling.{push-entry, set-map}
 
 -- ---- the end point becomes p, and q follows

@@ -14,7 +14,8 @@ use Rattle.path.specs.Records.{powerLimits}
 use Rattle.path.proofs.ReadBack.{length-powers, powers-back}
 use Rattle.path_stretches.specs.Powers.{placedPower, HoldsPowers}
 use Rattle.path_join.specs.Listed.{Rises, powersIn, sumOf, gradeEnd}
-use Rattle.path_join.specs.Joined.{joinPowers, joinedPowers, PowersLaid}
+use Rattle.path_join.specs.Joined.{joinPowers}
+use Rattle.path_join.specs.ByKind.{joinedPowers, PowersLaid}
 use Rattle.path_join.proofs.Left.{sum-next}
 
 -- what two columns hold is what is read from them

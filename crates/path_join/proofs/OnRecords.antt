@@ -21,7 +21,8 @@ use Rattle.path.specs.Records.{lastCoeff}
 use Rattle.path_stretches.specs.Stretches.{stretches, recordCount, stretchCount, layStretches, Laid}
 use Rattle.path_stretches.proofs.Steps.{count-range}
 use Rattle.path_join.specs.Listed.{Rises, lengthAt, samplesAt, recordsIn, sumOf, gradeEnd}
-use Rattle.path_join.specs.Joined.{joinRecords, joinedRecords}
+use Rattle.path_join.specs.Joined.{joinRecords}
+use Rattle.path_join.specs.ByKind.{joinedRecords}
 use Rattle.path_join.proofs.Left.{sum-next}
 use Rattle.path_stretches.proofs.Ended.{length-laid, length-stretches}
 

@@ -23,6 +23,7 @@ ghost use Rattle.path_stretches.specs.Stretches.{Laid};
 ghost use Rattle.path_stretches.specs.Powers.{HoldsPowers};
 ghost use Rattle.path_join.specs.Listed.{rises, gradeEnd, recordsIn, powersIn, sumOf};
 ghost use Rattle.path_join.specs.Joined as spec;
+ghost use Rattle.path_join.specs.ByKind as kinds;
 
 // Where the grades of link i end that begin at base.
 fn grade_end(links: &[u32], lengths: &[f64], elevs: &[f64], base: Length, i: usize) -> Length
@@ -92,8 +93,8 @@ fn join_point(
     requires { ⌜ i < 2 ^ 40 ⌝ }
     requires { ⌜ n < length (now offsets) ⌝ }
     requires { ⌜ 4 * (n + 1) ≤ length (now numbers) ⌝ }
-    requires { ⌜ spec.HoldsPoints (now offsets) (now numbers) (linkPoints n (now offsets) (now numbers)) ⌝ }
-    ensures { λ _. ⌜ spec.HoldsPoints (now (offsets .exit)) (now (numbers .exit)) (spec.joinPoint (now (links .entry)) (now (lengths .entry)) (linkPoints n (now (offsets .entry)) (now (numbers .entry))) i) ⌝ }
+    requires { ⌜ kinds.HoldsPoints (now offsets) (now numbers) (linkPoints n (now offsets) (now numbers)) ⌝ }
+    ensures { λ _. ⌜ kinds.HoldsPoints (now (offsets .exit)) (now (numbers .exit)) (spec.joinPoint (now (links .entry)) (now (lengths .entry)) (linkPoints n (now (offsets .entry)) (now (numbers .entry))) i) ⌝ }
 {
     let l = link_numbers(links, i);
     let base = column::floats::get(&*offsets, n - 1);
@@ -122,8 +123,8 @@ pub fn join_points(
     requires { ⌜ n + length (now list) ≤ 1025 ⌝ }
     requires { ⌜ n + length (now list) ≤ length (now offsets) ⌝ }
     requires { ⌜ 4 * (n + length (now list)) ≤ length (now numbers) ⌝ }
-    requires { ⌜ spec.HoldsPoints (now offsets) (now numbers) (linkPoints n (now offsets) (now numbers)) ⌝ }
-    ensures { λ _. ⌜ spec.HoldsPoints (now (offsets .exit)) (now (numbers .exit)) (spec.joinedPoints (now (links .entry)) (now (lengths .entry)) (linkPoints n (now (offsets .entry)) (now (numbers .entry))) (now (list .entry))) ⌝ }
+    requires { ⌜ kinds.HoldsPoints (now offsets) (now numbers) (linkPoints n (now offsets) (now numbers)) ⌝ }
+    ensures { λ _. ⌜ kinds.HoldsPoints (now (offsets .exit)) (now (numbers .exit)) (kinds.joinedPoints (now (links .entry)) (now (lengths .entry)) (linkPoints n (now (offsets .entry)) (now (numbers .entry))) (now (list .entry))) ⌝ }
 {
     let mut k = 0;
     while k < list.len() {
@@ -156,7 +157,7 @@ pub fn join_records(
     requires { ⌜ length (now list) ≤ 1025 ⌝ }
     requires { ⌜ 3 * (m + sumOf (recordsIn curves (now links)) (now list)) ≤ length (now col) ⌝ }
     requires { ⌜ now col ≡ filled +0 (length (now col)) (flat triple (coeffs m (now col))) ⌝ }
-    ensures { λ r. ⌜ Laid (now (col .exit)) r (length (now (col .entry))) (spec.joinedRecords curves train (rises (now (links .entry)) (now (lengths .entry)) (now (elevs .entry))) (now (headings .entry)) (begin .0) (coeffs m (now (col .entry))) (now (list .entry))) ⌝ }
+    ensures { λ r. ⌜ Laid (now (col .exit)) r (length (now (col .entry))) (kinds.joinedRecords curves train (rises (now (links .entry)) (now (lengths .entry)) (now (elevs .entry))) (now (headings .entry)) (begin .0) (coeffs m (now (col .entry))) (now (list .entry))) ⌝ }
 {
     let mut n = m;
     let mut base = begin.0;
@@ -249,7 +250,7 @@ pub fn join_powers(
     requires { ⌜ 3 * (m + sumOf (powersIn (now links)) (now list)) ≤ length (now powers) ⌝ }
     requires { ⌜ m + sumOf (powersIn (now links)) (now list) ≤ length (now districts) ⌝ }
     requires { ⌜ HoldsPowers (now powers) (now districts) (powerLimits m (now powers) (now districts)) ⌝ }
-    ensures { λ r. ⌜ spec.PowersLaid (now (powers .exit)) (now (districts .exit)) r (spec.joinedPowers (rises (now (links .entry)) (now (lengths .entry)) (now (elevs .entry))) (now (pool .entry)) (now (regions .entry)) (begin .0) (powerLimits m (now (powers .entry)) (now (districts .entry))) (now (list .entry))) ⌝ }
+    ensures { λ r. ⌜ kinds.PowersLaid (now (powers .exit)) (now (districts .exit)) r (kinds.joinedPowers (rises (now (links .entry)) (now (lengths .entry)) (now (elevs .entry))) (now (pool .entry)) (now (regions .entry)) (begin .0) (powerLimits m (now (powers .entry)) (now (districts .entry))) (now (list .entry))) ⌝ }
 {
     let mut n = m;
     let mut base = begin.0;

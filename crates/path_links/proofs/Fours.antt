@@ -11,7 +11,8 @@ use Rattle.column.specs.Records.{records, recordAt, putRecord, four}
 use Rattle.column.proofs.Bridge.{four-lawful, length-records, record-at, read-filled, put-filled}
 use Rattle.path.specs.declared.link_point.LinkPoint.{LinkPoint}
 use Rattle.path.specs.Records.{fourOf}
-use Rattle.path_links.specs.Reindex.{newNumber, renumberedFrom, renumbered, withFourth, foursFrom, renumberedFours, foursColumn}
+use Rattle.path_links.specs.Reindex.{newNumber, renumberedFrom, renumbered}
+use Rattle.path_links.specs.Fours.{withFourth, foursFrom, renumberedFours, foursColumn}
 
 -- ---- as the points are renumbered
 fours-from : (last : ℕ) (new : List ℕ) (p : LinkPoint) (ps : List LinkPoint) → map fourOf (renumberedFrom last new p ps) ≡ foursFrom last new (fourOf p) (map fourOf ps)

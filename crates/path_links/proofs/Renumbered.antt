@@ -25,7 +25,8 @@ use Rattle.path.specs.Sound.{sound, oneOfEach, withinBounds, pathAnswer}
 use Rattle.path.proofs.ReadBack.{counted, link-fours}
 use Rattle.path.proofs.InTurn.{turn-no, turn-yes, turn-done, turn-none, last-each, judged-done, outcome-refused, outcome-done}
 use Rattle.path.proofs.Clauses.{sound-within, some-link, room}
-use Rattle.path_links.specs.Reindex.{newNumber, renumbers, renumberedFrom, renumbered, reindexedPath, reindexAnswer, reindexOf, renumberedFours, foursColumn}
+use Rattle.path_links.specs.Reindex.{newNumber, renumbers, renumberedFrom, renumbered, reindexedPath, reindexAnswer, reindexOf}
+use Rattle.path_links.specs.Fours.{renumberedFours, foursColumn}
 use Rattle.path.proofs.Numbers.{present-numbers}
 use Rattle.path_links.proofs.Fours.{renumbered-fours}
 

@@ -4,9 +4,6 @@ use mathlib.Core.Bool.{Bool, true, not, _&&_}
 use mathlib.Core.List.{List, [], _∷_, map}
 use lib.Dec.{eqb, ltb}
 use lib.ListN.{length, getD}
-use Rattle.column.specs.declared.Four.{Four}
-use Rattle.column.specs.Entries.{filled}
-use Rattle.column.specs.Records.{flat, four}
 use Rattle.link.specs.Lists.{firstNo}
 use Rattle.path.specs.declared.path_tpc.PathTpc.{PathTpc}
 use Rattle.path.specs.declared.path_tpc.Answer.{Answer}
@@ -57,21 +54,3 @@ reindexAnswer new p c = inTurn (pathAnswer true p c ∷ askEach 4 (firstNo (map 
 unfoldable pub reindexOf : List ℕ → PathTpc → Columns → Outcome
 unfolding reindexAnswer reindexedPath pathOf outcome
 reindexOf new p c = outcome (reindexAnswer new p c) p c (reindexedPath new (pathOf p c))
-
--- ---- the same over the four numbers of each point, which is what `reindex` changes
-
-abbrev pub withFourth : ℕ → Four → Four
-withFourth n r = record { 0 = r .0; 1 = r .1; 2 = r .2; 3 = n }
-
-unfoldable pub foursFrom : ℕ → List ℕ → Four → List Four → List Four
-foursFrom last new r [] = withFourth last r ∷ []
-foursFrom last new r (q ∷ qs) = withFourth (newNumber new (r .3)) r ∷ foursFrom (newNumber new (r .3)) new q qs
-
-unfoldable pub renumberedFours : List ℕ → List Four → List Four
-unfolding foursFrom
-renumberedFours new [] = []
-renumberedFours new (r ∷ rs) = foursFrom (r .3) new r rs
-
--- a column of n entries that holds these and zeros past them
-abbrev pub foursColumn : ℕ → List Four → List ℕ
-foursColumn n rs = filled 0 n (flat four rs)

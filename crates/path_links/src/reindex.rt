@@ -22,6 +22,7 @@ ghost use Rattle.link.specs.Questions as questions;
 ghost use Rattle.path.specs.Records.{columns};
 ghost use Rattle.path.specs.Answers.{Outcome, left};
 ghost use Rattle.path_links.specs.Reindex as spec;
+ghost use Rattle.path_links.specs.Fours as fours;
 
 // Question 4 of a link number: the list has a number for it, and not 0.
 fn renumbers(new: &[u32], n: u32) -> bool
@@ -81,7 +82,7 @@ fn reindex_answer(
 
 // Another link number for link point i.
 fn put_number(numbers: &mut [u32], i: usize, number: u32)
-    ensures { λ _. ⌜ now (numbers .exit) ≡ putRecord four (now (numbers .entry)) i (spec.withFourth number (recordAt four (now (numbers .entry)) i)) ⌝ }
+    ensures { λ _. ⌜ now (numbers .exit) ≡ putRecord four (now (numbers .entry)) i (fours.withFourth number (recordAt four (now (numbers .entry)) i)) ⌝ }
 {
     let q = four_at(&*numbers, i);
     put_four(&mut *numbers, i, Four(q.0, q.1, q.2, number));
@@ -90,8 +91,8 @@ fn put_number(numbers: &mut [u32], i: usize, number: u32)
 // The new number of each of n link points, in one pass over a column that holds these points and zeros past them.
 fn renumber(numbers: &mut [u32], n: usize, new: &[u32])
     requires { ⌜ 0 < n ⌝ }
-    requires { ⌜ now numbers ≡ spec.foursColumn (length (now numbers)) (records four n (now numbers)) ⌝ }
-    ensures { λ _. ⌜ now (numbers .exit) ≡ spec.foursColumn (length (now (numbers .entry))) (spec.renumberedFours (now (new .entry)) (records four n (now (numbers .entry)))) ⌝ }
+    requires { ⌜ now numbers ≡ fours.foursColumn (length (now numbers)) (records four n (now numbers)) ⌝ }
+    ensures { λ _. ⌜ now (numbers .exit) ≡ fours.foursColumn (length (now (numbers .entry))) (fours.renumberedFours (now (new .entry)) (records four n (now (numbers .entry)))) ⌝ }
 {
     let end = n - 1;
     let mut last = four_at(&*numbers, 0).3;

@@ -1,2 +1,2 @@
--- Document 01's rows that are proved, as one table.
+-- Document 01's rows that are proved: one computed test over the table of ../specs.
 pub mod Table

@@ -1,5 +1,5 @@
 -- `start_front`: the last records of the path.
-use Rattle.path_extend.specs.Extend.{startFront}
+use Rattle.path_extend.specs.Steps.{startFront}
 use borrow.Author.Needs.{needs}
 use Rattle.path_extend.proofs.extend.start_front.Statement.{statement}
 use Rattle.path_extend.proofs.extend.start_front.Tie as tie

@@ -4,7 +4,7 @@ use native.Mathlib.Omega.{arith}
 use mathlib.Core.Path.{_≡_, refl, _∙_}
 use lib.ListN.{length, drop}
 use Rattle.path.specs.Records.{linkPoints}
-use Rattle.path_join.specs.Joined.{joinedPoints}
+use Rattle.path_join.specs.ByKind.{joinedPoints}
 use Rattle.path_join.proofs.Left.{left-next, left-none}
 use Rattle.path_join.proofs.OnPoints.{PointsLeft, points-first, points-next, points-done}
 use Rattle.path_join.proofs.join.join_points.Statement.{statement}

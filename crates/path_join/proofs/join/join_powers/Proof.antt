@@ -5,7 +5,7 @@ use mathlib.Core.Path.{refl}
 use lib.ListN.{length, drop}
 use Rattle.path.specs.Records.{powerLimits}
 use Rattle.path_join.specs.Listed.{rises}
-use Rattle.path_join.specs.Joined.{joinedPowers}
+use Rattle.path_join.specs.ByKind.{joinedPowers}
 use Rattle.path_join.proofs.Left.{left-next, left-none}
 use Rattle.path_join.proofs.OnPowers.{PowersLeft, powers-room, powers-next, powers-done}
 use Rattle.path_join.proofs.join.join_powers.Statement.{statement}

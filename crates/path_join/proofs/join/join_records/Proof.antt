@@ -5,7 +5,7 @@ use mathlib.Core.Path.{refl}
 use lib.ListN.{length, drop}
 use Rattle.lookup.specs.Coeff.{coeffs}
 use Rattle.path_join.specs.Listed.{rises}
-use Rattle.path_join.specs.Joined.{joinedRecords}
+use Rattle.path_join.specs.ByKind.{joinedRecords}
 use Rattle.path_join.proofs.Left.{left-next, left-none}
 use Rattle.path_join.proofs.OnRecords.{RecordsLeft, records-room, records-next, records-done}
 use Rattle.path_join.proofs.join.join_records.Statement.{statement}

@@ -4,7 +4,7 @@ use Prim.Native.Nat.{_-_, _≤_}
 use native.Mathlib.Omega.{arith}
 use lib.ListN.{length}
 use Rattle.column.specs.Records.{records, four}
-use Rattle.path_links.specs.Reindex.{renumberedFours}
+use Rattle.path_links.specs.Fours.{renumberedFours}
 use Rattle.path_links.proofs.Fours.{Partly, partly-none, partly-more, partly-end}
 use borrow.Author.Needs.{needs}
 use Rattle.path_links.proofs.reindex.renumber.Statement.{statement}

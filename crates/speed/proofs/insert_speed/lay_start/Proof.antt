@@ -41,7 +41,7 @@ add-lay-end-3 c = search needs
 lay-end-requires : tie.Need-lay-end-requires
 lay-end-requires c κs =
     let a = c .before .before .before .before .before .before .before .before .before .before .before .before .before .before .before .before .before .before .before .before .before .args in
-    let next = next-inserted (a .col .now) (c .before .before .before .insert-point .last .0) (a .n) (a .i) (point (a .l .«offset_start» .0) (c .before .before .before .before .before .before .before .before .min-speed .result .0)) (c .before .before .before .insert-point .ensures) in
+    let next = next-inserted (a .col .now) (c .before .before .before .insert-point .last .0) (a .n) (a .i) _ (c .before .before .before .insert-point .ensures) in
     (omega arith, (omega arith, (omega (arith, c .before .before .before .insert-point .kept .0), next .1)))
 
 same-length : tie.Need-same-length

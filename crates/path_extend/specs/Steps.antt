@@ -1,0 +1,55 @@
+-- What the functions below `extend` and the proofs need: the path's end read out of columns, counts of records, and what joining needs known.
+-- No public contract cites it. Definitions only.
+use Prim.Native.Nat.{ℕ, _-_}
+use mathlib.Core.Path.{_≡_}
+use mathlib.Core.Bool.{true}
+use mathlib.Core.List.{List}
+use lib.ListN.{getD}
+use lib.Ieee.{Float}
+use Rattle.ieee.specs.Number.{+0}
+use Rattle.column.specs.Records.{recordAt}
+use Rattle.lookup.specs.Coeff.{triple, standsAt, netOf}
+use Rattle.link.specs.declared.train_params.TrainParams.{TrainParams}
+use Rattle.link.specs.Lists.{every}
+use Rattle.link.specs.Table.{LinkTable, numbersOf}
+use Rattle.link.specs.Questions.{wellFormed}
+use Rattle.path.specs.declared.path_tpc.PathTpc.{PathTpc}
+use Rattle.path.specs.declared.path_tpc.PathAnswer.{PathAnswer}
+use Rattle.path.specs.Records.{Columns, pathOf, columnsOf}
+use Rattle.path.specs.Answers.{done}
+use Rattle.path_speeds.specs.Limits.{setsOf, fewAt}
+use Rattle.path_join.specs.Listed.{gradesIn, curvesIn, powersIn, sumOf}
+use Rattle.path_join.specs.Joined.{startingNet}
+use Rattle.path_extend.specs.declared.front.Front.{Front}
+use Rattle.path_extend.specs.declared.front.Walked.{Walked}
+use Rattle.path_extend.specs.declared.fit.Counts.{Counts}
+use Rattle.path_extend.specs.Sums.{front, frontAfter, sumsFinite}
+use Rattle.path_extend.specs.Extend.{recordsFit}
+
+-- whether a link's sums are finite, and where the path stands after it
+abbrev pub walked : TrainParams → LinkTable → Front → ℕ → Walked
+walked train t at n = record { finite = sumsFinite train t at n; front = frontAfter train t at n }
+
+-- how many grades, curves and power limits the listed links have
+unfoldable pub countsOf : List ℕ → List ℕ → Counts
+unfolding sumOf numbersOf
+countsOf links ns = record { grades = sumOf (gradesIn links) ns; curves = sumOf (curvesIn links) ns; powers = sumOf (powersIn links) ns }
+
+-- where the path stands when the first listed link is joined, read out of the columns
+unfoldable pub startFront : PathTpc → List ℕ → List Float → List ℕ → List Float → List Float → List Float → Front
+unfolding startingNet
+startFront p links elevs ns offsets grades curves =
+    let last = recordAt triple grades (p .«grade_count» - 1) in
+    front (getD offsets (p .«link_count» - 1) +0) (standsAt last) (startingNet links elevs (p .«grade_count») (netOf last) ns) (netOf (recordAt triple curves (p .«curve_count» - 1)))
+
+-- what joining the listed links needs known: the columns have zeros past the counts, the sets few conditions, the records fit, and each link is
+-- well formed
+pub record Ready (train : TrainParams) (t : LinkTable) (ns : List ℕ) (p : PathTpc) (c : Columns) : Type 0 where
+  pub tidy : c ≡ columnsOf c (pathOf p c)
+  pub few : every (fewAt train (setsOf t)) ns ≡ true
+  pub fit : recordsFit train t ns p c ≡ true
+  pub own : every (wellFormed t) ns ≡ true
+
+-- "done", with the path's record
+abbrev pub doneWith : PathTpc → PathAnswer
+doneWith p = record { answer = done; path = p }
