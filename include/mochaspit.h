@@ -37,6 +37,13 @@
  * A refused call leaves every column and every record as it came, and has 0 for each value that was asked for.
  *
  *
+ * CALLS
+ *
+ * Each call has the name and does the work of one of the original Rust, mochaspit_point_ and mochaspit_strap_ standing for its types
+ * Point and Strap. Added to these are mochaspit_link_grades and mochaspit_link_curves, and two calls that do in one what others do one
+ * by one: mochaspit_clear_each for mochaspit_clear, mochaspit_strap_walk for mochaspit_strap_calc_res.
+ *
+ *
  * COLUMNS
  *
  * A column is two arguments, a pointer and the number of entries. The pointer must not be NULL, also where the length is 0, and must
@@ -544,6 +551,18 @@ mochaspit_strap_res mochaspit_strap_calc_res(
     mochaspit_strap strap, const double *col, size_t col_len, size_t n, mochaspit_train_state state, uint32_t dir);
 
 /*
+ * mochaspit_strap_calc_res at count positions, the first at state, front and back of each step metres further than those of the one
+ * before: all or nothing. The list is read once for questions 1 and 2.
+ * Questions: 1 of dir, position, step and list; 2; then at each position 10 and 11 of the first search, and of the other where it is
+ * made, and 8; between two positions 8 of front + step and back + step. A refusal has place 0, at whichever position.
+ * Comes back: the strap and the force of the last position; for count 0 the strap as it came and force 0. Refused: the same strap as it
+ * came and force 0.
+ */
+mochaspit_strap_res mochaspit_strap_walk(
+    mochaspit_strap strap, const double *col, size_t col_len, size_t n, mochaspit_train_state state, uint32_t dir, double step,
+    size_t count);
+
+/*
  * The coefficient of the front's or the back's record.
  * Questions: 1 of the list; 2; 11, the index is in the list.
  * Comes back: the coefficient. Refused: 0.
@@ -570,49 +589,6 @@ size_t mochaspit_strap_path_tpc_idx_front(mochaspit_strap strap);
  * Comes back: the strap with both indices less sub. Refused: the strap as it came.
  */
 mochaspit_strap_answer mochaspit_strap_fix_cache(mochaspit_strap strap, size_t sub);
-
-/* ---- many lookups in one list: mochaspit_list_answer puts questions 1 and 2 of the list once, and the three calls after it put only
- * question 2 again. They do not ask whether the numbers of list and position are finite and the position's length is above 0, but
- * compare and compute with them as they come. All else is as in mochaspit_strap_new and mochaspit_strap_calc_res, and so are the answers
- * while the list stands as it was when mochaspit_list_answer answered done, and of a position that passes question 1. */
-
-/*
- * Whether a list may be searched.
- * Questions: 1 of the list; 2.
- * Comes back: done, or the refusal.
- */
-mochaspit_answer mochaspit_list_answer(const double *col, size_t col_len, size_t n);
-
-/*
- * mochaspit_strap_new without question 1.
- * Questions: 2; then, of two records or more, 8 of the back, 10 and 11 of the back, 10 and 11 of the front.
- * Comes back: the strap. Refused: indices 0 and 0.
- */
-mochaspit_strap_answer mochaspit_strap_new_known(const double *col, size_t col_len, size_t n, mochaspit_train_state state);
-
-/*
- * mochaspit_strap_calc_res without question 1 of position and list.
- * Questions: 1 of dir; 2; 10 and 11 of the first search, and of the other where it is made; 8.
- * Comes back: the strap moved, and the force. Refused: the strap as it came, force 0.
- */
-mochaspit_strap_res mochaspit_strap_calc_res_known(
-    mochaspit_strap strap, const double *col, size_t col_len, size_t n, mochaspit_train_state state, uint32_t dir);
-
-/* Where a walk ended: the strap and the force of the last position that was done, and how many were. */
-typedef struct mochaspit_walked {
-    mochaspit_answer answer;
-    mochaspit_strap strap;
-    double res;
-    size_t count;
-} mochaspit_walked;
-
-/*
- * mochaspit_strap_calc_res_known at count positions, the first at state, and front and back of each step metres further than those of the one before.
- * Questions: 1 of dir and 2, once; then those of mochaspit_strap_calc_res_known after them at each position in turn; the first refusal ends the walk.
- * Comes back: the strap and the force of the last position that was done, and how many were done; the given strap, force 0 and 0 where none was.
- */
-mochaspit_walked mochaspit_strap_walk_known(
-    mochaspit_strap strap, const double *col, size_t col_len, size_t n, mochaspit_train_state state, uint32_t dir, double step, size_t count);
 
 #ifdef __cplusplus
 }

@@ -49,7 +49,6 @@ mod strap;
 pub mod sys;
 mod table;
 mod train;
-mod walk;
 
 pub use columns::{Room, SpeedPoint};
 pub use link::{Compare, Condition, Elevation, Heading, Link, LinkIdx, PowerLimit, SpeedLimit, SpeedSet, SpeedSets, TypeSets};
@@ -61,7 +60,6 @@ pub use refusal::Refusal;
 pub use strap::Strap;
 pub use table::LinkTable;
 pub use train::{Dir, Train, TrainType};
-pub use walk::{Run, Walk};
 
 /// The example of README.md, run with the tests.
 #[cfg(doctest)]

@@ -34,15 +34,6 @@ impl Position {
         Ok(())
     }
 
-    /// Question 1 of a position, for calls that leave it to the caller.
-    pub(crate) fn judged(&self) -> Result<(), Refusal> {
-        let numbers = [self.offset, self.offset_back, self.length, self.weight_static, self.offset_in_link];
-        if numbers.iter().all(|x| x.is_finite()) && self.length > 0.0 {
-            return Ok(());
-        }
-        Err(Refusal { number: 1, place: 0 })
-    }
-
     /// The record of the C interface.
     pub(crate) fn record(&self) -> sys::TrainState {
         sys::TrainState {

@@ -29,6 +29,15 @@ impl Strap {
         res_of(found, self)
     }
 
+    /// [`Strap::calc_res`] at `count` positions, the first at `position` and front and back of each `step` metres further, all or
+    /// nothing: the force at the last, and 0 for no position. Refused with 1 and 2, and then at the first position that is refused with
+    /// 10, 11 or 8.
+    pub fn walk(&mut self, records: &Records, position: &Position, dir: Dir, step: f64, count: usize) -> Result<f64, Refusal> {
+        let (col, len, n) = column(records);
+        let found = unsafe { sys::mochaspit_strap_walk(self.record(), col, len, n, position.record(), dir as u32, step, count) };
+        res_of(found, self)
+    }
+
     /// The coefficient of the front's record. Refused with 1, 2 and 11.
     pub fn res_coeff_front(&self, records: &Records) -> Result<f64, Refusal> {
         let (col, len, n) = column(records);
@@ -67,19 +76,19 @@ impl Strap {
         Ok(())
     }
 
-    pub(crate) fn record(&self) -> sys::Strap {
+    fn record(&self) -> sys::Strap {
         sys::Strap { idx_front: self.idx_front, idx_back: self.idx_back }
     }
 }
 
 /// The strap of an answer that is done.
-pub(crate) fn strap_of(found: sys::StrapAnswer) -> Result<Strap, Refusal> {
+fn strap_of(found: sys::StrapAnswer) -> Result<Strap, Refusal> {
     judged(found.answer)?;
     Ok(Strap { idx_front: found.strap.idx_front, idx_back: found.strap.idx_back })
 }
 
 /// The force of an answer that is done; the strap is moved then.
-pub(crate) fn res_of(found: sys::StrapRes, strap: &mut Strap) -> Result<f64, Refusal> {
+fn res_of(found: sys::StrapRes, strap: &mut Strap) -> Result<f64, Refusal> {
     *strap = strap_of(sys::StrapAnswer { answer: found.answer, strap: found.strap })?;
     Ok(found.res)
 }

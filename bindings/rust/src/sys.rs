@@ -153,15 +153,6 @@ pub struct StrapRes {
     pub res: f64,
 }
 
-#[repr(C)]
-#[derive(Clone, Copy, Debug, Default)]
-pub struct Walked {
-    pub answer: Answer,
-    pub strap: Strap,
-    pub res: f64,
-    pub count: usize,
-}
-
 /// Declares a call with the path's seven columns, lent to be written or to be read, and with or without a link table.
 macro_rules! path_call {
     ($name:ident($($arg:ident: $t:ty),*) writes -> $r:ty) => {
@@ -225,21 +216,7 @@ extern "C" {
 
     pub fn mochaspit_strap_new(col: *const f64, col_len: usize, n: usize, state: TrainState) -> StrapAnswer;
     pub fn mochaspit_strap_calc_res(strap: Strap, col: *const f64, col_len: usize, n: usize, state: TrainState, dir: u32) -> StrapRes;
-    pub fn mochaspit_strap_res_coeff_front(strap: Strap, col: *const f64, col_len: usize, n: usize) -> CoeffAnswer;
-    pub fn mochaspit_strap_res_coeff_back(strap: Strap, col: *const f64, col_len: usize, n: usize) -> CoeffAnswer;
-    pub fn mochaspit_strap_res_net_front(strap: Strap, col: *const f64, col_len: usize, n: usize, state: TrainState) -> NetAnswer;
-    pub fn mochaspit_strap_res_net_back(strap: Strap, col: *const f64, col_len: usize, n: usize, state: TrainState) -> NetAnswer;
-    pub fn mochaspit_strap_path_tpc_idx_front(strap: Strap) -> usize;
-    pub fn mochaspit_strap_fix_cache(strap: Strap, sub: usize) -> StrapAnswer;
-}
-
-// Many lookups in one list. Question 1 of the list is put by `mochaspit_list_answer` alone, and question 2 by each of the four.
-#[link(name = "capi", kind = "static")]
-extern "C" {
-    pub fn mochaspit_list_answer(col: *const f64, col_len: usize, n: usize) -> Answer;
-    pub fn mochaspit_strap_new_known(col: *const f64, col_len: usize, n: usize, state: TrainState) -> StrapAnswer;
-    pub fn mochaspit_strap_calc_res_known(strap: Strap, col: *const f64, col_len: usize, n: usize, state: TrainState, dir: u32) -> StrapRes;
-    pub fn mochaspit_strap_walk_known(
+    pub fn mochaspit_strap_walk(
         strap: Strap,
         col: *const f64,
         col_len: usize,
@@ -248,5 +225,11 @@ extern "C" {
         dir: u32,
         step: f64,
         count: usize,
-    ) -> Walked;
+    ) -> StrapRes;
+    pub fn mochaspit_strap_res_coeff_front(strap: Strap, col: *const f64, col_len: usize, n: usize) -> CoeffAnswer;
+    pub fn mochaspit_strap_res_coeff_back(strap: Strap, col: *const f64, col_len: usize, n: usize) -> CoeffAnswer;
+    pub fn mochaspit_strap_res_net_front(strap: Strap, col: *const f64, col_len: usize, n: usize, state: TrainState) -> NetAnswer;
+    pub fn mochaspit_strap_res_net_back(strap: Strap, col: *const f64, col_len: usize, n: usize, state: TrainState) -> NetAnswer;
+    pub fn mochaspit_strap_path_tpc_idx_front(strap: Strap) -> usize;
+    pub fn mochaspit_strap_fix_cache(strap: Strap, sub: usize) -> StrapAnswer;
 }

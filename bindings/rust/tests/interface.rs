@@ -71,8 +71,8 @@ fn unknown_directions() {
         assert_eq!((res.answer, res.point, res.res.to_bits()), (answer(1, 0), point, 0));
         let res = unsafe { sys::mochaspit_strap_calc_res(strap, col, len, n, state(), dir) };
         assert_eq!((res.answer, res.strap, res.res.to_bits()), (answer(1, 0), strap, 0));
-        refused_steps(strap, &list, n, dir, 1);
-        refused_steps(strap, &[], 0, dir, 1);
+        refused_walks(strap, &list, n, dir, 1);
+        refused_walks(strap, &[], 0, dir, 1);
     }
     for dir in 0..3 {
         let start = sys::Strap::default();
@@ -93,45 +93,42 @@ fn a_count_that_the_column_does_not_hold() {
     assert_eq!(found.answer, answer(1, 0));
 }
 
-/// A strap's step and a walk that are refused with a number: the strap as it came, force +0, no position.
-fn refused_steps(strap: sys::Strap, list: &[f64], n: usize, dir: u32, number: u32) {
-    let (col, len) = (list.as_ptr(), list.len());
-    let res = unsafe { sys::mochaspit_strap_calc_res_known(strap, col, len, n, state(), dir) };
-    assert_eq!((res.answer, res.strap, res.res.to_bits()), (answer(number, 0), strap, 0));
-    let end = unsafe { sys::mochaspit_strap_walk_known(strap, col, len, n, state(), dir, 1.0, 3) };
-    assert_eq!((end.answer, end.strap, end.res.to_bits(), end.count), (answer(number, 0), strap, 0, 0));
-}
-
-#[test]
-fn walks_ask_question_2() {
-    let list = [f64::NAN, 0.5, 0.0, 100.0, 0.0];
-    for (list, n) in [(&list[..0], 0), (&list, 0), (&list, 2), (&list, 3), (&list, usize::MAX / 3 + 1), (&list, usize::MAX)] {
-        let new = unsafe { sys::mochaspit_strap_new_known(list.as_ptr(), list.len(), n, state()) };
-        assert_eq!((new.answer, new.strap), (answer(2, 0), sys::Strap::default()));
-        let strap = sys::Strap { idx_front: 6, idx_back: 4 };
-        for dir in 0..3 {
-            refused_steps(strap, list, n, dir, 2);
-            let none = unsafe { sys::mochaspit_strap_walk_known(strap, list.as_ptr(), list.len(), n, state(), dir, 1.0, 0) };
-            assert_eq!(none.answer, answer(2, 0));
-        }
+/// Walks over none, one and three positions that are refused with a number: place 0, the strap as it came, force +0.
+fn refused_walks(strap: sys::Strap, list: &[f64], n: usize, dir: u32, number: u32) {
+    for count in [0, 1, 3] {
+        let end = unsafe { sys::mochaspit_strap_walk(strap, list.as_ptr(), list.len(), n, state(), dir, 1.0, count) };
+        assert_eq!((end.answer, end.strap, end.res.to_bits()), (answer(number, 0), strap, 0));
     }
 }
 
 #[test]
-fn walks_take_numbers_as_they_come() {
-    let start = sys::Strap::default();
-    let unread = [0.0, 0.5, 0.0, 100.0, f64::NAN, 50.0];
-    let (col, len) = (unread.as_ptr(), unread.len());
-    assert_eq!(unsafe { sys::mochaspit_list_answer(col, len, 2) }, answer(1, 0));
-    let new = unsafe { sys::mochaspit_strap_new_known(col, len, 2, state()) };
-    assert_eq!((new.answer, new.strap), (answer(0, 0), start));
+fn walks_ask_questions_1_and_2() {
+    let list = [0.0, 0.5, 0.0, 100.0, 0.0];
+    let strap = sys::Strap { idx_front: 6, idx_back: 4 };
     for dir in 0..3 {
-        let res = unsafe { sys::mochaspit_strap_calc_res_known(start, col, len, 2, state(), dir) };
-        assert_eq!((res.answer, res.strap, res.res), (answer(0, 0), start, 1.0));
-        let end = unsafe { sys::mochaspit_strap_walk_known(start, col, len, 2, state(), dir, 1.0, 3) };
-        assert_eq!((end.answer, end.strap, end.res, end.count), (answer(0, 0), start, 1.0, 3));
-        refused_steps(start, &[0.0, f64::NAN, 0.0, 100.0, 0.0, 50.0], 2, dir, 8);
+        for (list, n) in [(&list[..0], 0), (&list, 0), (&list, 2), (&list, 3), (&list, usize::MAX / 3 + 1), (&list, usize::MAX)] {
+            refused_walks(strap, list, n, dir, 2);
+        }
+        refused_walks(strap, &[0.0, f64::NAN, 0.0, 100.0, 0.0, 50.0], 2, dir, 1);
+        refused_walks(strap, &[0.0, f64::NAN, 0.0], 9, dir, 1);
+        refused_walks(strap, &[f64::INFINITY, 0.5, 0.0, 100.0, 0.0, 50.0], 2, dir, 1);
     }
+}
+
+#[test]
+fn walks_that_are_done() {
+    let list = [0.0, 0.5, 0.0, 100.0, 0.0, 50.0];
+    let (col, len, start) = (list.as_ptr(), list.len(), sys::Strap::default());
+    for (dir, count) in [(0, 1), (0, 3), (1, 1), (1, 40), (2, 1), (2, 40)] {
+        let end = unsafe { sys::mochaspit_strap_walk(start, col, len, 2, state(), dir, 1.0, count) };
+        assert_eq!((end.answer, end.strap, end.res), (answer(0, 0), start, 1.0));
+    }
+    let strap = sys::Strap { idx_front: 6, idx_back: 4 };
+    let none = unsafe { sys::mochaspit_strap_walk(strap, col, len, 2, state(), 1, 1.0, 0) };
+    assert_eq!((none.answer, none.strap, none.res.to_bits()), (answer(0, 0), strap, 0));
+    // 60 + 41 is past the last record
+    let past = unsafe { sys::mochaspit_strap_walk(start, col, len, 2, state(), 1, 1.0, 42) };
+    assert_eq!((past.answer, past.strap, past.res.to_bits()), (answer(10, 0), start, 0));
 }
 
 #[test]

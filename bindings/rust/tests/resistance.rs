@@ -3,7 +3,7 @@
 mod common;
 
 use common::{link, no, path_of};
-use mochaspit::{Coeff, Dir, Elevation, Link, LinkIdx, LinkTable, Point, Position, Records, Run, Strap};
+use mochaspit::{Coeff, Dir, Elevation, Link, LinkIdx, LinkTable, Point, Position, Records, Refusal, Strap};
 
 /// Coefficient 0.01 from 0, 0.02 from 100, 0 from 250.
 fn hill() -> Records<'static> {
@@ -95,44 +95,91 @@ fn positions() -> Vec<Position> {
     list
 }
 
+/// A walk by single calls, front and back of each position by their sums: the strap is moved once every one is done.
+fn one_by_one(strap: &mut Strap, records: &Records, mut at: Position, dir: Dir, step: f64, count: usize) -> Result<f64, Refusal> {
+    let (mut moved, mut force) = (*strap, 0.0);
+    for k in 0..count {
+        if k > 0 {
+            at.offset += step;
+            at.offset_back += step;
+            if !(at.offset.is_finite() && at.offset_back.is_finite()) {
+                return no(8, 0);
+            }
+        }
+        force = moved.calc_res(records, &at, dir)?;
+    }
+    *strap = moved;
+    Ok(force)
+}
+
 #[test]
 fn a_walk_answers_as_the_single_calls() {
     let hill = hill();
     let single = Records::from(vec![Coeff { res_coeff: 0.5, ..Coeff::default() }]);
-    for records in [&hill, &single] {
-        let walk = records.walk().unwrap();
-        for position in positions() {
-            assert_eq!(walk.strap(&position), Strap::new(records, &position));
-            for (dir, i) in [Dir::Unk, Dir::Fwd, Dir::Bwd].into_iter().flat_map(|dir| (0..16).map(move |i| (dir, i))) {
+    let steps = [(7.5, 1), (7.5, 2), (-15.0, 3), (30.0, 4), (0.0, 3), (f64::MAX, 2), (f64::MIN, 3)];
+    for (records, position) in [&hill, &single].into_iter().flat_map(|records| positions().into_iter().map(move |p| (records, p))) {
+        for (dir, i) in [Dir::Unk, Dir::Fwd, Dir::Bwd].into_iter().flat_map(|dir| (0..16).map(move |i| (dir, i))) {
+            for (step, count) in steps {
                 let mut a = Strap { idx_front: i / 4, idx_back: i % 4 };
                 let mut b = a;
-                assert_eq!(walk.calc_res(&mut a, &position, dir), b.calc_res(records, &position, dir));
+                assert_eq!(a.walk(records, &position, dir, step, count), one_by_one(&mut b, records, position, dir, step, count));
                 assert_eq!(a, b);
             }
         }
     }
-    assert_eq!(Records::default().walk().unwrap_err().number, 2);
-    assert_eq!(Records::from(vec![Coeff { res_net: f64::NAN, ..Coeff::default() }]).walk().unwrap_err().number, 1);
 }
 
 #[test]
-fn a_run_goes_on_to_the_first_refusal() {
-    let hill = hill();
-    let walk = hill.walk().unwrap();
-    for (dir, step, count) in [(Dir::Fwd, 7.5, 1000), (Dir::Unk, 7.5, 3), (Dir::Fwd, 0.0, 5), (Dir::Fwd, 7.5, 0)] {
-        let (mut a, mut b) = (Strap::default(), Strap::default());
-        let mut position = at(120.0);
-        let mut end = Run { count: 0, force: 0.0, refusal: None };
-        while end.count < count && end.refusal.is_none() {
-            match walk.calc_res(&mut b, &position, dir) {
-                Ok(force) => end = Run { count: end.count + 1, force, refusal: None },
-                Err(refusal) => end.refusal = Some(refusal),
-            }
-            position.offset += step;
-            position.offset_back += step;
+fn a_walk_is_done_whole_or_not_at_all() {
+    let start = Strap::default();
+    let (mut strap, hill) = (start, hill());
+    for count in [5, 9, 1000] {
+        // 120, 160, 200, 240 and 280: the fifth is past the last record
+        assert_eq!(strap.walk(&hill, &at(120.0), Dir::Fwd, 40.0, count), no(10, 0));
+        assert_eq!(strap, start);
+    }
+    assert_eq!(strap.walk(&hill, &at(251.0), Dir::Fwd, 40.0, 3), no(10, 0));
+    assert_eq!(strap, start);
+    assert_eq!(strap.walk(&hill, &at(120.0), Dir::Fwd, 40.0, 4), Ok(0.02 * 1e6));
+    assert_eq!(strap, Strap { idx_front: 1, idx_back: 1 });
+    let mut wild = Strap { idx_front: 0, idx_back: usize::MAX };
+    assert_eq!(wild.walk(&hill, &at(120.0), Dir::Fwd, 40.0, 3), no(11, 0));
+    assert_eq!(wild.walk(&hill, &at(120.0), Dir::Fwd, 40.0, 0), Ok(0.0));
+    assert_eq!(wild, Strap { idx_front: 0, idx_back: usize::MAX });
+}
+
+#[test]
+fn a_walk_asks_list_position_and_step_once() {
+    let start = Strap { idx_front: 1, idx_back: 0 };
+    let (mut strap, hill) = (start, hill());
+    let broken = Records::from(vec![Coeff { res_net: f64::NAN, ..Coeff::default() }]);
+    for count in [0, 1, 3] {
+        for step in [f64::NAN, f64::INFINITY, f64::NEG_INFINITY] {
+            assert_eq!(strap.walk(&hill, &at(120.0), Dir::Fwd, step, count), no(1, 0));
+            assert_eq!(strap.walk(&Records::default(), &at(120.0), Dir::Fwd, step, count), no(1, 0));
         }
-        assert_eq!(walk.run(&mut a, &at(120.0), dir, step, count), end);
-        assert_eq!(a, b);
+        assert_eq!(strap.walk(&hill, &at(f64::NAN), Dir::Fwd, 1.0, count), no(1, 0));
+        assert_eq!(strap.walk(&hill, &Position { length: 0.0, ..at(120.0) }, Dir::Fwd, 1.0, count), no(1, 0));
+        assert_eq!(strap.walk(&broken, &at(120.0), Dir::Fwd, 1.0, count), no(1, 0));
+        assert_eq!(strap.walk(&Records::default(), &at(120.0), Dir::Fwd, 1.0, count), no(2, 0));
+    }
+    assert_eq!(strap, start);
+}
+
+/// The sums of a step that is made, and not of one that is not.
+#[test]
+fn a_step_that_overflows() {
+    let coeff = |offset| Coeff { offset, res_coeff: 0.5, res_net: 0.0 };
+    let wide = Records::from(vec![coeff(f64::MIN), coeff(0.0), coeff(f64::INFINITY)]);
+    let (ahead, behind) = (at(1e308), Position { offset: -1e307, offset_back: -1e308, ..at(0.0) });
+    for (position, dir, step, i) in [(ahead, Dir::Fwd, 1e308, 1), (behind, Dir::Bwd, -1e308, 0)] {
+        let start = Strap { idx_front: i, idx_back: i };
+        let mut strap = start;
+        assert_eq!(strap.walk(&wide, &position, dir, step, 1), Ok(0.5 * 1e6));
+        assert_eq!(strap.walk(&wide, &position, dir, step, 2), no(8, 0));
+        assert_eq!(strap.walk(&wide, &position, dir, step * 0.3, 3), Ok(0.5 * 1e6));
+        assert_eq!(strap.walk(&wide, &position, dir, step * 0.3, 4), no(8, 0));
+        assert_eq!(strap, start);
     }
 }
 

@@ -1,3 +1,2 @@
--- The definitions of the crate `capi`: codes of directions and train types, and calls behind question 2 alone.
+-- The definitions of the crate `capi`: codes of directions and train types.
 pub mod Codes
-pub mod Held

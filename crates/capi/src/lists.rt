@@ -22,6 +22,7 @@ ghost use mathlib.Core.Bool.{false};
 ghost use Rattle.resistance.specs.Listed.{searchedOf, notSearched, resCoeffOf, resNetOf};
 ghost use Rattle.resistance.specs.Point as points;
 ghost use Rattle.resistance.specs.Strap as straps;
+ghost use Rattle.resistance.specs.Walk.{walkOf};
 ghost use Rattle.capi.specs.Codes.{dirOf, directed};
 
 // `calc_idx`: the record of a list where an offset lies.
@@ -135,6 +136,29 @@ pub extern "C" fn mochaspit_strap_calc_res(
 {
     match dir_of(dir) {
         DirCode::Known(d) => resistance::strap::calc_res(strap, col, n, state, d),
+        DirCode::Unknown => StrapRes {
+            answer: asked(1, false),
+            strap,
+            res: Force(0.0),
+        },
+    }
+}
+
+// A walk of `Strap::calc_res` over count positions, the first at state and each a step further, all or nothing.
+#[no_mangle]
+pub extern "C" fn mochaspit_strap_walk(
+    strap: Strap,
+    col: &[f64],
+    n: usize,
+    state: TrainState,
+    dir: u32,
+    step: Length,
+    count: usize,
+) -> StrapRes
+    ensures { λ r. ⌜ r ≡ directed (dirOf dir) (λ d. walkOf d (step .0) count strap state n (now (col .entry))) (straps.refusedRes (ask 1 false) strap) ⌝ }
+{
+    match dir_of(dir) {
+        DirCode::Known(d) => resistance::walk::walk(strap, col, n, state, d, step, count),
         DirCode::Unknown => StrapRes {
             answer: asked(1, false),
             strap,

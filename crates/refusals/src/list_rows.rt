@@ -19,19 +19,19 @@ use si::Length;
 use train::train_state::TrainState;
 
 // Records at 0, 100 and 250: a rise of 1 in 100, of 2 in 100, then level.
-fn records() -> [f64; 9] {
+pub fn records() -> [f64; 9] {
     [0.0, 0.01, 0.0, 100.0, 0.02, 1.0, 250.0, 0.0, 4.0]
 }
 
 // The same with a coefficient that no force can hold.
-fn steep() -> [f64; 9] {
+pub fn steep() -> [f64; 9] {
     let mut a = records();
     a[1] = 1e300;
     a[4] = -1e300;
     a
 }
 
-fn broken() -> [f64; 9] {
+pub fn broken() -> [f64; 9] {
     let mut a = records();
     a[5] = 1.0 / 0.0;
     a
@@ -51,7 +51,7 @@ pub fn train_at(front: f64, back: f64) -> TrainState {
 }
 
 // The same with another length and weight.
-fn other_train(front: f64, back: f64, length: f64, weight: f64) -> TrainState {
+pub fn other_train(front: f64, back: f64, length: f64, weight: f64) -> TrainState {
     let s = train_at(front, back);
     TrainState {
         offset: Length(front),
@@ -261,7 +261,7 @@ fn say_strap(name: &[u8], r: StrapAnswer) {
     say(b"\n");
 }
 
-fn say_strap_res(name: &[u8], r: StrapRes) {
+pub fn say_strap_res(name: &[u8], r: StrapRes) {
     say(name);
     answer(r.answer);
     let t = r.strap;

@@ -16,6 +16,7 @@ use Rattle.lookup.specs.Coeff.{coeffs, coeffAt, standsAt, coefficientOf, netOf,
 use Rattle.lookup.specs.CalcIdx.{Indexed, indexed, findIn, listSound}
 use Rattle.lookup.proofs.Steps.{sound-known}
 use Rattle.lookup.proofs.Place.{found-below}
+use Rattle.link.proofs.Known.{and-both}
 use Rattle.path.specs.declared.path_tpc.Answer.{Answer}
 use Rattle.path.specs.Answers.{done, ask, inTurn}
 use Rattle.path.proofs.InTurn.{turn-no, first-no, first-yes, first-done, last-one, turn-none}
@@ -51,9 +52,13 @@ module _ (also : Bool) (n : ℕ) (c : List Float) where
       let one = first-done 0 (ask 2 (listSound n c) ∷ []) (also && coeffsFinite true n c) (ap (λ (a : Answer). a .number) (sym e) ∙ h) in
       sound-known n c (first-done 1 [] (listSound n c) (one .1) .0)
 
-  list-answered : {r : Answer} → r ≡ listAnswer also n c → r .number ≡ 0 → r ≡ done
+  pub list-answered : {r : Answer} → r ≡ listAnswer also n c → r .number ≡ 0 → r ≡ done
   unfolding listAnswer
   list-answered e h = e ∙ turn-none (ask 1 (also && coeffsFinite true n c) ∷ ask 2 (listSound n c) ∷ []) (ap (λ (a : Answer). a .number) (sym e) ∙ h)
+
+  pub list-also : listAnswer also n c .number ≡ 0 → also ≡ true
+  unfolding listAnswer
+  list-also h = and-both also (coeffsFinite true n c) (first-done 0 (ask 2 (listSound n c) ∷ []) (also && coeffsFinite true n c) h .0) .0
 
 -- where the other numbers are a position's
 pub list-of-state : (s : TrainState) (n : ℕ) (c : List Float) {ok : Bool} {r : Answer} → ok ≡ stateFinite s → r ≡ listAnswer ok n c → r ≡ listAnswer (stateFinite s) n c

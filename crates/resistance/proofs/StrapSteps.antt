@@ -18,7 +18,7 @@ use Rattle.lookup.specs.declared.path_res_coeff.PathResCoeff.{PathResCoeff}
 use Rattle.lookup.specs.Coeff.{triple, coeffs, coeffAt, coefficientOf, resVal}
 use Rattle.lookup.proofs.Coeffs.{triple-lawful}
 use Rattle.path.specs.declared.path_tpc.Answer.{Answer}
-use Rattle.path.specs.Answers.{done, isDone, ask}
+use Rattle.path.specs.Answers.{done, isDone, ask, inTurn}
 use Rattle.train.specs.declared.train_state.TrainState.{TrainState}
 use Rattle.train.specs.Position.{frontOf, backOf, lengthOf, weightOf, stateFinite}
 use Rattle.resistance.specs.declared.listed.Searched.{Searched}
@@ -261,6 +261,27 @@ module _ (dir : Dir) (t : Strap) (s : TrainState) (n : ℕ) (c : List Float) {m 
         where
           given : record { answer = m .answer; strap = m .strap; res = record { 0 = k ⊗ weightOf s } } ≡ good
           given = cc (placed .0, e, force)
+
+-- ---- a refused call leaves the strap: handing it back again changes nothing
+module _ (t : Strap) where
+  -- what a call with the strap t makes of r: a refusal hands t back
+  abbrev pub settled : StrapRes → StrapRes
+  settled r = cond (isDone (r .answer)) r (refusedRes (r .answer) t)
+
+  -- good is what the call gives where the answer is done
+  settled-behind : (a : Answer) (good : StrapRes) → settled good ≡ good → settled (cond (isDone a) good (refusedRes a t)) ≡ cond (isDone a) good (refusedRes a t)
+  settled-behind a good e = go (isDone a) refl
+    where
+      go : (b : Bool) → isDone a ≡ b → settled (cond b good (refusedRes a t)) ≡ cond b good (refusedRes a t)
+      go true k = e
+      go false k = rw k
+
+  pub known-settled : (dir : Dir) (s : TrainState) (rs : List PathResCoeff) → settled (calcResKnown dir t s rs) ≡ calcResKnown dir t s rs
+  unfolding calcResKnown
+  known-settled dir s rs =
+      let m = moved dir t s rs in
+      let a = inTurn (m .answer ∷ ask 8 (allFinite (resSteps (m .one) (m .strap) s rs)) ∷ []) in
+      settled-behind a (record { answer = done; strap = m .strap; res = record { 0 = resAt (m .one) (m .strap) s rs } }) refl
 
 -- ---- a new strap
 module _ (s : TrainState) (n : ℕ) (c : List Float) where

@@ -1,28 +1,23 @@
-// A walk of a strap over many positions of a train, in a list that is known to be sound: no question is asked twice.
+// A walk of a strap: its resistance at many positions of a train, each a step further than the one before, all or nothing.
+use crate::listed::list_answer;
 use crate::strap::Strap;
-use crate::strap::calc_res_strap;
-use crate::strap::moved_by;
+use crate::strap::StrapRes;
+use crate::strap::calc_res_known;
 use lookup::lin_search_hint::Dir;
 use path::answer::asked;
 use path::path_tpc::Answer;
 use si::Force;
 use si::Length;
 use train::train_state::TrainState;
+use train::train_state::state_finite;
 ghost use mathlib.Core.Path.{_≡_};
-ghost use Prim.Native.Nat.{_*_, _≤_, _<_};
-ghost use lib.ListN.{length};
-ghost use Rattle.ieee.specs.Number.{+0};
-ghost use Rattle.lookup.specs.Coeff.{coeffs};
+ghost use mathlib.Core.Bool.{_&&_};
+ghost use Prim.Native.Nat.{_<_};
+ghost use lib.Ieee.Scale.{finite};
+ghost use Rattle.train.specs.Position.{stateFinite};
+ghost use Rattle.resistance.specs.Listed.{listAnswer};
+ghost use Rattle.resistance.specs.Strap.{refusedRes};
 ghost use Rattle.resistance.specs.Walk as spec;
-
-// Where a walk ended: the strap and the force of the last position that was done, and how many were.
-#[repr(C)]
-pub struct Walked {
-    pub answer: Answer,
-    pub strap: Strap,
-    pub res: Force,
-    pub count: usize,
-}
 
 // Front and back a step further.
 fn further(s: TrainState, step: Length) -> TrainState
@@ -39,20 +34,19 @@ fn further(s: TrainState, step: Length) -> TrainState
     }
 }
 
-// Where a walk ends, for whatever reason.
-fn ended(answer: Answer, strap: Strap, force: f64, count: usize) -> Walked
-    ensures { λ r. ⌜ r ≡ spec.walkedTo answer strap force count ⌝ }
+// A walk that is refused, or has no position: the strap as it came, force 0.
+fn unmoved(answer: Answer, strap: Strap) -> StrapRes
+    ensures { λ r. ⌜ r ≡ refusedRes answer strap ⌝ }
 {
-    Walked {
+    StrapRes {
         answer,
         strap,
-        res: Force(force),
-        count,
+        res: Force(0.0),
     }
 }
 
-// The resistance at count positions, the first at state and each a step further; the first refusal ends the walk.
-pub fn walk_known(
+// The walk where questions 1 and 2 are answered with yes, and there is a position.
+fn walk_sound(
     strap: Strap,
     col: &[f64],
     n: usize,
@@ -60,31 +54,52 @@ pub fn walk_known(
     dir: Dir,
     step: Length,
     count: usize,
-) -> Walked
-    requires { ⌜ 0 < n ⌝ }
-    requires { ⌜ 3 * n ≤ length (now col) ⌝ }
-    ensures { λ r. ⌜ r ≡ spec.walk dir (step .0) count strap state +0 0 (coeffs n (now (col .entry))) ⌝ }
+) -> StrapRes
+    requires { ⌜ 0 < count ⌝ }
+    requires { ⌜ listAnswer (stateFinite state && finite (step .0)) n (now col) .number ≡ 0 ⌝ }
+    ensures { λ r. ⌜ r ≡ spec.walkOf dir (step .0) count strap state n (now (col .entry)) ⌝ }
 {
     let mut t = strap;
     let mut s = state;
-    let mut force = 0.0;
-    let mut i = 0;
-    while i < count {
-        let m = moved_by(t, col, n, s, dir);
-        let answer = m.answer;
+    let mut left = count - 1;
+    loop {
+        let r = calc_res_known(t, col, n, s, dir);
+        let answer = r.answer;
         if answer.number != 0 {
-            return ended(answer, t, force, i);
+            return unmoved(answer, strap);
         }
-        let after = m.strap;
-        let coeff = calc_res_strap(m.one, after, col, n, s);
-        let res = coeff.0 * s.weight_static.0;
-        if !ieee::is_finite(res) {
-            return ended(asked(8, false), t, force, i);
+        if left == 0 {
+            return r;
         }
-        t = after;
-        force = res;
+        t = r.strap;
         s = further(s, step);
-        i += 1;
+        if !(ieee::is_finite(s.offset.0) & ieee::is_finite(s.offset_back.0)) {
+            return unmoved(asked(8, false), strap);
+        }
+        left -= 1;
     }
-    ended(asked(0, true), t, force, i)
+}
+
+// The resistance at count positions, the first at state and each a step further: questions 1 and 2, then those of each position and
+// after it 8 of the step to the next. A refused walk leaves the strap as it came.
+pub fn walk(
+    strap: Strap,
+    col: &[f64],
+    n: usize,
+    state: TrainState,
+    dir: Dir,
+    step: Length,
+    count: usize,
+) -> StrapRes
+    ensures { λ r. ⌜ r ≡ spec.walkOf dir (step .0) count strap state n (now (col .entry)) ⌝ }
+{
+    let finite = state_finite(state) & ieee::is_finite(step.0);
+    let first = list_answer(col, n, finite);
+    if first.number != 0 {
+        return unmoved(first, strap);
+    }
+    if count == 0 {
+        return unmoved(first, strap);
+    }
+    walk_sound(strap, col, n, state, dir, step, count)
 }

@@ -2,3 +2,4 @@
 pub mod Behind
 pub mod Fields
 pub mod Lent
+pub mod Moves
