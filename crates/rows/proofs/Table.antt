@@ -13,10 +13,11 @@ use Rattle.column.specs.Records as column
 use Rattle.speed.specs.Points.{Point, point}
 use Rattle.speed.specs.Column.{pair}
 use Rattle.speed.specs.Insert.{insertSpeed}
+use Rattle.speed.specs.Clear.{clearPoints}
 use Rattle.lookup.specs.declared.path_res_coeff.PathResCoeff.{PathResCoeff}
 use Rattle.lookup.specs.declared.lin_search_hint.Dir.{Dir}
 use Rattle.lookup.specs.declared.lin_search_hint.Dir.the-variants.{Fwd, Bwd}
-use Rattle.lookup.specs.Coeff.{resCoeff}
+use Rattle.lookup.specs.Coeff.{resCoeff, coeffsFinite}
 use Rattle.lookup.specs.Search.{searched, inRange, hintAllowed}
 use Rattle.lookup.specs.CalcIdx.{Indexed, findIn}
 use Rattle.path.specs.declared.path_tpc.PathTpc.{PathTpc}
@@ -167,5 +168,5 @@ every [] = true
 every (r ∷ rs) = right r && every rs
 
 pub table : T (every rows)
-unfolding rows every insertSpeed clearOf filled column.records column.recordAt findIn searched inRange hintAllowed minSpeed smaller Ieee.toBits Ieee.ofInt Ieee.lt Ieee.le Ieee.eq Ieee.ne Ieee.neg
+unfolding rows every insertSpeed clearOf clearPoints coeffsFinite filled column.records column.recordAt findIn searched inRange hintAllowed minSpeed smaller Ieee.toBits Ieee.ofInt Ieee.lt Ieee.le Ieee.eq Ieee.ne Ieee.neg
 table = tt
