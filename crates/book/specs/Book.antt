@@ -75,7 +75,7 @@ dropEnds x (e ∷ es) = dropEndsFrom x e es
 
 -- "then the points change by rule 1 of the differences below, X being the first end"
 unfoldable pub dropBehind : Float → Book → Book
-unfolding dropEnds clearPoints
+unfolding dropEnds
 dropBehind x b =
     let ends = dropEnds x (b .ends) in
     record { ends = ends; limits = b .limits; points = clearPoints (b .points) (firstEnd ends) }

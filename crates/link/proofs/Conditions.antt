@@ -1,9 +1,9 @@
--- Laws of conditions: an unknown comparison code, the axle limit by its size, question 6, and a list of conditions.
+-- Laws of conditions: an unknown comparison code, the axle limit by its size, a kind by its code, question 6, and a list of conditions.
 use Prim.Native.Nat.{ℕ, zero, suc, _+_, _-_, _*_, _/_, _^_, _≤_, _<_, min}
 use native.Mathlib.Nat.{le-div-iff-mul-le, mul-pos}
 use native.Mathlib.Numerals.{add-one}
 use native.Mathlib.Omega.{arith}
-use mathlib.Core.Path.{_≡_, refl, sym, _∙_}
+use mathlib.Core.Path.{_≡_, refl, sym, ap, _∙_}
 use mathlib.Core.Bool.{Bool, true, false, _&&_}
 use lib.Dec.{T, leb, leb→le, le→leb}
 use lib.IntN.{pos}
@@ -15,9 +15,11 @@ use borrow.Author.Tests.{ne-eqb, leb-true, leb-false, lt-leb, le-leb}
 use Rattle.ieee.proofs.Order.{le→cross, cross→le, le-real-r, lt-le-trans, lt-trans, not-le, bool-ext, of-true, of-false}
 use Rattle.link.specs.declared.train_params.TrainParams.{TrainParams}
 use Rattle.link.specs.declared.speed_param.SpeedParam.{SpeedParam}
+use Rattle.link.specs.declared.speed_param.SpeedParam.the-variants.{MassTotal, MassPerBrake, AxleCount}
+use Rattle.link.specs.declared.speed_param.ParamFound.{ParamFound}
 use Rattle.link.specs.declared.speed_param.ParamFound.the-variants.{Known, Unknown}
 use Rattle.link.specs.Lists.{every, upFrom}
-use Rattle.link.specs.Condition.{Condition, byCode, holds, applies, axleLimit, paramOf, conditionFormed}
+use Rattle.link.specs.Condition.{Condition, byCode, holds, applies, axleLimit, paramOf, ParamTold, paramTold, conditionFormed}
 
 -- ---- a comparison code that is none of the five
 pub no-comparison : (code : ℕ) (a b c d e : Bool) → (code ≡ 1 → ⊥) → (code ≡ 2 → ⊥) → (code ≡ 3 → ⊥) → (code ≡ 4 → ⊥) → (code ≡ 5 → ⊥)
@@ -77,13 +79,25 @@ module _ (v : Float) where
         lt-trans v (whole most) (fin false 1 (pos 64)) (not-le (whole most) v tt (le-real-r (whole 1) v least) (of-false k)) (unfold Ieee.lt in tt),
       )
 
+-- ---- a kind looked up by its code
+-- its code and value, looked up again
+told-again : (p : ParamFound) → paramOf (paramTold p .kind) (paramTold p .value) ≡ p
+unfolding paramOf
+told-again (Known (MassTotal v)) = refl
+told-again (Known (MassPerBrake v)) = refl
+told-again (Known (AxleCount v)) = refl
+told-again Unknown = refl
+
+pub same-param : (a b : ParamFound) → paramTold a ≡ paramTold b → a ≡ b
+same-param a b e = sym (told-again a) ∙ ap (λ (t : ParamTold). paramOf (t .kind) (t .value)) e ∙ told-again b
+
 -- ---- question 6 of a condition
 module _ (x : Condition) where
-  pub kind-unknown : paramOf (x .kind) (x .value) ≡ Unknown → false ≡ conditionFormed x
+  pub kind-unknown : paramTold (paramOf (x .kind) (x .value)) ≡ paramTold Unknown → false ≡ conditionFormed x
   unfolding conditionFormed
   kind-unknown e = rw e
 
-  module _ (p : SpeedParam) (e : paramOf (x .kind) (x .value) ≡ Known p) where
+  module _ (p : SpeedParam) (e : paramTold (paramOf (x .kind) (x .value)) ≡ paramTold (Known p)) where
     pub code-low : x .comparison < 1 → false ≡ conditionFormed x
     unfolding conditionFormed
     code-low h = rw (e, lt-leb 1 (x .comparison) h)

@@ -1,11 +1,11 @@
--- Question 6 of limits, samples and sets, test by test as the code asks it, and how many train types there are.
+-- Question 6 of limits, samples and sets, test by test as the code asks it, how many train types there are, and question 7.
 use Prim.Native.Nat.{ℕ, suc, _+_, _-_, _*_, _≤_, _<_}
 use native.Mathlib.Numerals.{add-one}
 use native.Mathlib.Omega.{arith}
 use mathlib.Core.Path.{_≡_, refl, sym, ap, ap₂, _∙_}
-use mathlib.Core.Bool.{Bool, true, false, not, _&&_, cond, and-false}
+use mathlib.Core.Bool.{Bool, true, false, _&&_, and-false}
 use mathlib.Core.List.{List}
-use lib.Dec.{eqb, leb, lit<}
+use lib.Dec.{leb, lit<}
 use lib.ListN.{length, getD}
 use borrow.Author.Tests.{le-leb, lt-leb}
 use lib.Ieee as Ieee
@@ -22,9 +22,9 @@ use Rattle.link.specs.declared.speed_set.SetFound.{SetFound}
 use Rattle.link.specs.declared.speed_set.SetFound.the-variants.{Found, Missing}
 use Rattle.link.specs.Lists.{every, upFrom}
 use Rattle.link.specs.Train.{typeNumber}
-use Rattle.link.specs.Table.{Sample, Limit, limitAt, conditionsOf, limitsOf}
+use Rattle.link.specs.Table.{Sample, Limit, limitAt, setAt, conditionsOf, limitsOf, setFor, SetTold, setTold}
 use Rattle.link.specs.Condition.{conditionFormed}
-use Rattle.link.specs.Questions.{riseTo, spans, sampleFinite, samplesFormed, limitFormed, presentFormed, setFormed, isFound}
+use Rattle.link.specs.Questions.{riseTo, spans, sampleFinite, samplesFormed, limitFormed, presentFormed, setFormed, hasSet}
 use Rattle.link.proofs.Loops.{range-more, range-none}
 
 -- ---- records that lie in their columns, read entry by entry; d is what a read past the end would give
@@ -152,10 +152,23 @@ pub set-absent : (codes : List ℕ) (values limits : List Float) {s set : SpeedS
 unfolding setFormed
 set-absent codes values limits e z = rw (← e, z)
 
--- ---- a set was found where there is a place
-pub found-at : (p : ℕ) (s : SpeedSet) {found : SetFound} → cond (eqb p 8) Missing (Found s) ≡ found → not (eqb p 8) ≡ isFound found
-found-at p s e = by (eqb p 8) ∙ ap isFound e
-  where
-    by : (b : Bool) → not b ≡ isFound (cond b Missing (Found s))
-    by true = refl
-    by false = refl
+-- ---- a set looked up
+-- number and set tell two answers apart
+same-set : (a b : SetFound) → setTold a ≡ setTold b → a ≡ b
+same-set (Found s) (Found r) e = ap (λ (t : SetTold). Found (t .set)) e
+same-set (Found s) Missing e = absurd (omega (arith, ap (λ (t : SetTold). t .number) e))
+same-set Missing (Found s) e = absurd (omega (arith, ap (λ (t : SetTold). t .number) e))
+same-set Missing Missing e = refl
+
+pub set-is : (set : ℕ → SpeedSet) (type : TrainType) {r f : SetFound} → setTold r ≡ setTold (setFor set type) → r ≡ f → setFor set type ≡ f
+set-is set type {r} e g = sym (same-set r (setFor set type) e) ∙ g
+
+-- question 7 of link k, which is n, by the answer of the look-up
+module _ (sets : List ℕ) (type : TrainType) {n k : ℕ} {r : SetFound} (e : setTold r ≡ setTold (setFor (setAt sets n) type)) (own : n ≡ k) where
+  pub set-none : r ≡ Missing → hasSet sets type k ≡ false
+  unfolding hasSet
+  set-none f = rw (← own, ← e, f)
+
+  pub set-some : {s : SpeedSet} → r ≡ Found s → hasSet sets type k ≡ true
+  unfolding hasSet
+  set-some f = rw (← own, ← e, f)

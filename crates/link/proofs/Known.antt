@@ -22,7 +22,7 @@ use Rattle.link.specs.declared.network.Judged.the-variants.{Yes, NoAt}
 use Rattle.link.specs.Lists.{every, upFrom, firstNo, firstNoFrom}
 use Rattle.link.specs.Train.{typeNumber}
 use Rattle.link.specs.Condition.{conditionFormed}
-use Rattle.link.specs.Table.{LinkTable, linkAt, inside, isPresent, conditionsOf, limitsOf, setAt, setFor}
+use Rattle.link.specs.Table.{LinkTable, linkAt, inside, isPresent, conditionsOf, limitsOf, setAt, setFor, setTold}
 use Rattle.link.specs.Questions.{samplesFormed, limitFormed, powerFormed, knownFlag, presentFormed, setFormed, inPools, wellFormed, numberAt, numbers, question6}
 use Rattle.link.proofs.Formed.{type-below}
 use Rattle.link.proofs.Loops.{range-more}
@@ -140,19 +140,11 @@ pub found : (set : ℕ → SpeedSet) (type : TrainType) (s : SpeedSet) → setFo
 unfolding setFor
 found set type s e = pick (isPresent (set 0)) refl (isPresent (set (suc (typeNumber type)))) refl e
   where
-    held : SpeedSet → SetFound → SpeedSet
-    held d Missing = d
-    held d (Found a) = a
-
     same : (a b : SpeedSet) → Found a ≡ Found b → b ≡ a
-    same a b e = ap (held a) (sym e)
-
-    is-found : SetFound → Bool
-    is-found Missing = false
-    is-found (Found a) = true
+    same a b e = ap (λ (f : SetFound). setTold f .set) (sym e)
 
     none : Missing ≡ Found s → ⊥
-    none e = false≢true (ap is-found e)
+    none e = omega (arith, ap (λ (f : SetFound). setTold f .number) e)
 
     pick :
         (a : Bool) → isPresent (set 0) ≡ a

@@ -1,12 +1,14 @@
 -- Conditions of a speed set: document 01, speed_param.rs and train_params.rs. Definitions only.
 use Prim.Native.Nat.{ℕ}
-use mathlib.Core.Bool.{Bool, true, false, _&&_, cond}
+use mathlib.Core.Bool.{Bool, false, _&&_, cond}
 use mathlib.Core.List.{List}
 use lib.Dec.{eqb, ltb, leb}
 use lib.Ieee as Ieee
 use lib.Ieee.{Float}
 use lib.Ieee.Scale.{finite}
+use Rattle.ieee.specs.Number.{+0}
 use Rattle.link.specs.declared.train_params.TrainParams.{TrainParams}
+use Rattle.link.specs.declared.speed_param.SpeedParam.{SpeedParam}
 use Rattle.link.specs.declared.speed_param.SpeedParam.the-variants.{MassTotal, MassPerBrake, AxleCount}
 use Rattle.link.specs.declared.speed_param.ParamFound.{ParamFound}
 use Rattle.link.specs.declared.speed_param.ParamFound.the-variants.{Known, Unknown}
@@ -23,6 +25,28 @@ pub record Condition : Type 0 where
 unfoldable pub paramOf : ℕ → Float → ParamFound
 paramOf kind v =
     cond (eqb kind 3) (Known (MassTotal v)) (cond (eqb kind 4) (Known (MassPerBrake v)) (cond (eqb kind 5) (Known (AxleCount v)) Unknown))
+
+-- a kind looked up by its code, in document 01's terms: the number of the question that an unknown code is refused by, the code and the value, 0 and +0
+-- for a refusal
+pub record ParamTold : Type 0 where
+  pub number : ℕ
+  pub kind : ℕ
+  pub value : Float
+
+abbrev pub kindOf : SpeedParam → ℕ
+kindOf (MassTotal v) = 3
+kindOf (MassPerBrake v) = 4
+kindOf (AxleCount v) = 5
+
+abbrev pub valueOf : SpeedParam → Float
+valueOf (MassTotal v) = v
+valueOf (MassPerBrake v) = v
+valueOf (AxleCount v) = v
+
+-- number, code and value of each case of the enum; question 6: "Is each link well formed?", its "codes known"
+abbrev pub paramTold : ParamFound → ParamTold
+paramTold (Known p) = record { number = 0; kind = kindOf p; value = valueOf p }
+paramTold Unknown = record { number = 6; kind = 0; value = +0 }
 
 -- "Comparison codes 1 to 5: =, >, <, ≥, ≤": which of the five a code asks for
 unfoldable pub byCode : ℕ → Bool → Bool → Bool → Bool → Bool → Bool
@@ -55,11 +79,7 @@ holds train c = paramHolds train (c .comparison) (paramOf (c .kind) (c .value))
 abbrev pub applies : TrainParams → List Condition → Bool
 applies train cs = every (holds train) cs
 
-abbrev pub isKnown : ParamFound → Bool
-isKnown Unknown = false
-isKnown (Known p) = true
-
 -- question 6 of a condition: its codes are known, and its value is finite
 unfoldable pub conditionFormed : Condition → Bool
 unfolding paramOf
-conditionFormed c = isKnown (paramOf (c .kind) (c .value)) && (leb 1 (c .comparison) && (leb (c .comparison) 5 && finite (c .value)))
+conditionFormed c = eqb (paramTold (paramOf (c .kind) (c .value)) .number) 0 && (leb 1 (c .comparison) && (leb (c .comparison) 5 && finite (c .value)))

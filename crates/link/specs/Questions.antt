@@ -10,13 +10,11 @@ use lib.Ieee.Scale.{finite}
 use Rattle.ieee.specs.Number.{+0}
 use Rattle.link.specs.declared.train_params.TrainType.{TrainType}
 use Rattle.link.specs.declared.speed_set.SpeedSet.{SpeedSet}
-use Rattle.link.specs.declared.speed_set.SetFound.{SetFound}
-use Rattle.link.specs.declared.speed_set.SetFound.the-variants.{Found, Missing}
 use Rattle.link.specs.declared.network.LinkNumbers.{LinkNumbers}
 use Rattle.link.specs.declared.network.Judged.{Judged}
 use Rattle.link.specs.Lists.{every, upFrom, firstNo}
 use Rattle.link.specs.Condition.{conditionFormed}
-use Rattle.link.specs.Table.{LinkTable, Sample, Limit, PowerLimit, inTable, numbersOf, linkAt, setAt, inside, isPresent, conditionsOf, limitsOf, setFor}
+use Rattle.link.specs.Table.{LinkTable, Sample, Limit, PowerLimit, inTable, numbersOf, linkAt, setAt, inside, isPresent, conditionsOf, limitsOf, setFor, setTold}
 
 -- ---- question 4: "Is each link number real (not 0) and in the table?"
 
@@ -105,13 +103,9 @@ wellFormed t n =
 
 -- ---- question 7: "Is there a set for the train?"
 
-abbrev pub isFound : SetFound → Bool
-isFound Missing = false
-isFound (Found s) = true
-
 unfoldable pub hasSet : List ℕ → TrainType → ℕ → Bool
 unfolding setFor setAt
-hasSet sets type n = isFound (setFor (setAt sets n) type)
+hasSet sets type n = eqb (setTold (setFor (setAt sets n) type) .number) 0
 
 -- ---- over a list of link numbers: the first failing position
 

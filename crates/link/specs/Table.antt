@@ -136,6 +136,19 @@ unfoldable pub setFor : (ℕ → SpeedSet) → TrainType → SetFound
 setFor set type =
     cond (isPresent (set 0)) (Found (set 0)) (cond (isPresent (set (suc (typeNumber type)))) (Found (set (suc (typeNumber type)))) Missing)
 
+-- a set looked up, in document 01's terms: the number of the question that a missing one is refused by, and the set, of zeros for a refusal
+pub record SetTold : Type 0 where
+  pub number : ℕ
+  pub set : SpeedSet
+
+abbrev pub noSet : SpeedSet
+noSet = record { present = 0; «is_head_end» = 0; «params_first» = 0; «params_count» = 0; «limits_first» = 0; «limits_count» = 0 }
+
+-- number and set of each case of the enum; question 7: "Is there a set for the train?"
+abbrev pub setTold : SetFound → SetTold
+setTold (Found s) = record { number = 0; set = s }
+setTold Missing = record { number = 7; set = noSet }
+
 -- ---- a link
 
 -- entry k of link i

@@ -4,7 +4,8 @@ use crate::network::link_follows;
 use crate::network::link_numbers;
 use crate::network::real_in;
 use crate::network::well_formed;
-use crate::speed_set::has_set;
+use crate::speed_set::SetFound;
+use crate::speed_set::set_for;
 use crate::train_params::TrainType;
 ghost use mathlib.Core.Path.{_≡_};
 ghost use mathlib.Core.Bool.{false};
@@ -112,9 +113,10 @@ pub fn question7(list: &[u32], points: bool, count: usize, sets: &[u32], t: Trai
     let mut k = 0;
     while k < count {
         let n = number_at(list, points, k);
-        if !has_set(sets, n as usize, t) {
+        // this is the refusal with number 7, at place k
+        let SetFound::Found(_) = set_for(sets, n as usize, t) else {
             return Judged::NoAt(k);
-        }
+        };
         k += 1;
     }
     Judged::Yes

@@ -2,7 +2,7 @@
 use crate::train_params::TrainParams;
 ghost use mathlib.Core.Path.{_≡_};
 ghost use Prim.Native.Nat.{_<_, _^_};
-ghost use Rattle.link.specs.Condition.{paramOf, byCode, comparesFloat, comparesCount, axleLimit, paramHolds, holds, conditionFormed};
+ghost use Rattle.link.specs.Condition.{paramOf, paramTold, byCode, comparesFloat, comparesCount, axleLimit, paramHolds, holds, conditionFormed};
 ghost use Rattle.link.specs.Table.{conditionAt};
 
 // A condition carries its limit value with its kind.
@@ -19,7 +19,7 @@ pub enum ParamFound {
 
 // The kind's code and the value as a condition; the codes are the Rust's, 3 to 5.
 fn speed_param(kind: u32, v: f64) -> ParamFound
-    ensures { λ r. ⌜ r ≡ paramOf kind v ⌝ }
+    ensures { λ r. ⌜ paramTold r ≡ paramTold (paramOf kind v) ⌝ }
 {
     if kind == 3 {
         return ParamFound::Known(SpeedParam::MassTotal(v));

@@ -7,8 +7,8 @@ ghost use mathlib.Core.Path.{_≡_};
 ghost use Prim.Native.Nat.{_+_, _<_, _^_};
 ghost use Rattle.link.specs.Lists.{every, upFrom};
 ghost use Rattle.link.specs.Condition.{conditionFormed};
-ghost use Rattle.link.specs.Table.{setAt, setFor, conditionAt};
-ghost use Rattle.link.specs.Questions.{presentFormed, setFormed, hasSet};
+ghost use Rattle.link.specs.Table.{setAt, setFor, setTold, conditionAt};
+ghost use Rattle.link.specs.Questions.{presentFormed, setFormed};
 
 // A set place: flags are 0 or 1 if they are known; first and count of its conditions and of its limits.
 pub struct SpeedSet {
@@ -45,7 +45,7 @@ pub fn set_at(sets: &[u32], i: usize, p: usize) -> SpeedSet
 // The single set of link i, or the one for the train's type.
 pub fn set_for(sets: &[u32], i: usize, t: TrainType) -> SetFound
     requires { ⌜ i < 2 ^ 40 ⌝ }
-    ensures { λ r. ⌜ r ≡ setFor (setAt (now (sets .entry)) i) t ⌝ }
+    ensures { λ r. ⌜ setTold r ≡ setTold (setFor (setAt (now (sets .entry)) i) t) ⌝ }
 {
     let single = set_at(sets, i, 0);
     if single.present == 1 {
@@ -56,17 +56,6 @@ pub fn set_for(sets: &[u32], i: usize, t: TrainType) -> SetFound
         return SetFound::Found(typed);
     }
     SetFound::Missing
-}
-
-// Question 7 of link i: there is a set for the train.
-pub fn has_set(sets: &[u32], i: usize, t: TrainType) -> bool
-    requires { ⌜ i < 2 ^ 40 ⌝ }
-    ensures { λ r. ⌜ r ≡ hasSet (now (sets .entry)) t i ⌝ }
-{
-    let SetFound::Found(_) = set_for(sets, i, t) else {
-        return false;
-    };
-    true
 }
 
 // Question 6 of `count` conditions from `first` on.

@@ -1,19 +1,23 @@
--- Grade and curve records in a column: the layout is lawful, an entry is a record's offset, and question 1 entry by entry.
+-- Grade and curve records in a column: the layout is lawful, an entry is a record's offset, question 1 entry by entry and record by record,
+-- and a value that is finite.
 use Prim.Native.Nat.{ℕ, suc, _+_, _-_, _*_, _≤_, _<_}
 use native.Mathlib.Omega.{arith}
 use native.Mathlib.Nat.{add-zero}
 use mathlib.Core.Path.{_≡_, refl, sym, ap, ap₂, _∙_}
-use mathlib.Core.Bool.{Bool, _&&_, and-true}
-use mathlib.Core.List.{List, [], _∷_}
+use mathlib.Core.Bool.{Bool, true, false, _&&_, and-true}
+use mathlib.Core.List.{List, [], _∷_, _++_}
 use lib.ListN.{length, take, drop, getD, drop-of-length-le}
 use lib.Seq.{take-all, drop-cons, getD-drop}
 use lib.Ieee.{Float, nan, div, ofBits, binary64}
 use lib.Ieee.Scale.{finite}
-use Rattle.ieee.specs.Number.{+0, +∞, allFinite}
-use Rattle.column.specs.Records.{recordAt}
+use lib.Dec.{T}
+use Rattle.ieee.specs.Number.{+0, +∞, _⊖_, _⊗_, allFinite}
+use Rattle.ieee.proofs.Finite.{add-finite-r, mul-finite-r}
+use Rattle.column.specs.Records.{recordAt, flat}
 use Rattle.column.proofs.Filling.{getD-within}
 use Rattle.column.proofs.Bridge.{Lawful, record-at}
-use Rattle.lookup.specs.Coeff.{resCoeff, triple, coeffs, noCoeff, coeffAt, standsAt, offsetAt, closesWell, closingFinite, coeffsFinite}
+use Rattle.lookup.specs.declared.path_res_coeff.PathResCoeff.{PathResCoeff}
+use Rattle.lookup.specs.Coeff.{resCoeff, triple, coeffs, noCoeff, coeffAt, standsAt, coefficientOf, netOf, offsetAt, resVal, closesWell, closingFinite, coeffsFinite}
 
 pub triple-lawful : Lawful triple
 triple-lawful = record { length-pack = λ g. refl; unpack-pack = λ g l. refl; pack-unpack = back }
@@ -88,3 +92,40 @@ pub finite-entries : (closes : Bool) (n : ℕ) (c : List Float) → 0 < n → 3 
     → coeffsFinite closes n c
     ≡ (allFinite (take (3 * (n - 1)) c) && (closesWell closes (getD c (3 * (n - 1)) nan) && (finite (getD c (3 * (n - 1) + 1) +0) && finite (getD c (3 * (n - 1) + 2) +0))))
 finite-entries closes n c h k = finite-some closes n c h ∙ ap (λ (b : Bool). allFinite (take (3 * (n - 1)) c) && b) (closing-entries closes c (3 * (n - 1)) k)
+
+-- ---- question 1 of records side by side, with l behind them
+regroup : (a b c x y : Bool) → ((a && (b && (c && x))) && y) ≡ ((a && (b && c)) && (x && y))
+regroup true true true x y = refl
+regroup true true false x y = refl
+regroup true false c x y = refl
+regroup false b c x y = refl
+
+module _ (closes : Bool) (l : List Float) where
+  pub finite-none : coeffsFinite closes 0 l ≡ true
+  unfolding coeffsFinite
+  finite-none = refl
+
+  -- the last record, whose offset may be +infinity where the list closes so
+  pub finite-last : (g : PathResCoeff) → coeffsFinite closes 1 (flat triple (g ∷ []) ++ l) ≡ (closesWell closes (standsAt g) && (finite (coefficientOf g) && finite (netOf g)))
+  unfolding coeffsFinite closingFinite allFinite flat
+  finite-last g = ap (λ (b : Bool). closesWell closes (standsAt g) && (finite (coefficientOf g) && b)) (and-true (finite (netOf g)))
+
+  -- one that another follows
+  pub finite-more : (g h : PathResCoeff) (gs : List PathResCoeff)
+      → coeffsFinite closes (length (g ∷ h ∷ gs)) (flat triple (g ∷ h ∷ gs) ++ l)
+      ≡ ((finite (standsAt g) && (finite (coefficientOf g) && finite (netOf g))) && coeffsFinite closes (length (h ∷ gs)) (flat triple (h ∷ gs) ++ l))
+  unfolding coeffsFinite allFinite flat
+  finite-more g h gs =
+      let rest = flat triple (h ∷ gs) ++ l in
+      let m = 3 * length gs in
+      let e : 3 * suc (length gs) ≡ suc (suc (suc m)) = omega arith in
+      let all = standsAt g ∷ coefficientOf g ∷ netOf g ∷ rest in
+      ap (λ (k : ℕ). allFinite (take k all) && closingFinite closes (take 3 (drop k all))) e
+      ∙ regroup (finite (standsAt g)) (finite (coefficientOf g)) (finite (netOf g)) (allFinite (take m rest)) (closingFinite closes (take 3 (drop m rest)))
+
+-- ---- a value is finite only where every result on the way is
+pub value-way : (g : PathResCoeff) (x : Float) → T (finite (resVal g x)) → T (finite (x ⊖ standsAt g)) × T (finite (coefficientOf g ⊗ (x ⊖ standsAt g)))
+unfolding resVal
+value-way g x t =
+    let product = add-finite-r (netOf g) (coefficientOf g ⊗ (x ⊖ standsAt g)) t in
+    (mul-finite-r (coefficientOf g) (x ⊖ standsAt g) product, product)

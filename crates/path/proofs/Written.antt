@@ -1,8 +1,7 @@
 -- A path written to its columns: it is sound and finite as its lists are.
-use Prim.Native.Nat.{ℕ, suc, _*_, _≤_}
-use native.Mathlib.Omega.{arith}
-use mathlib.Core.Path.{_≡_, refl, sym, ap, ap₂, _∙_}
-use mathlib.Core.Bool.{Bool, true, false, _&&_, and-true}
+use Prim.Native.Nat.{ℕ, _*_, _≤_}
+use mathlib.Core.Path.{_≡_, sym, ap, ap₂, _∙_}
+use mathlib.Core.Bool.{Bool, true, _&&_}
 use mathlib.Core.List.{List, [], _∷_, _++_, map}
 use lib.ListN.{length, take, drop, take-append-drop}
 use lib.Ieee.{Float}
@@ -14,8 +13,8 @@ use Rattle.speed.specs.Points.{Point}
 use Rattle.speed.specs.Column.{pair}
 use Rattle.speed.proofs.Held.{pair-lawful}
 use Rattle.lookup.specs.declared.path_res_coeff.PathResCoeff.{PathResCoeff}
-use Rattle.lookup.specs.Coeff.{triple, coeffs, standsAt, coefficientOf, netOf, closesWell, closingFinite, coeffsFinite}
-use Rattle.lookup.proofs.Coeffs.{triple-lawful}
+use Rattle.lookup.specs.Coeff.{triple, coeffs, standsAt, coefficientOf, netOf, closesWell, coeffsFinite}
+use Rattle.lookup.proofs.Coeffs.{triple-lawful, finite-none, finite-last, finite-more}
 use Rattle.link.specs.Table.{PowerLimit}
 use Rattle.link.proofs.Known.{and-both}
 use Rattle.path.specs.declared.path_tpc.PathTpc.{PathTpc}
@@ -52,24 +51,11 @@ pub record FinitePath (path : Path) : Type 0 where
 
 -- ---- question 1, from the columns to the lists
 
-regroup : (a b c x y : Bool) → ((a && (b && (c && x))) && y) ≡ ((a && (b && c)) && (x && y))
-regroup true true true x y = refl
-regroup true true false x y = refl
-regroup true false c x y = refl
-regroup false b c x y = refl
-
 flat-finite : (closes : Bool) (gs : List PathResCoeff) (l : List Float) → coeffsFinite closes (length gs) (flat triple gs ++ l) ≡ recordsFinite closes gs
-unfolding coeffsFinite closingFinite allFinite flat recordsFinite
-flat-finite closes [] l = refl
-flat-finite closes (g ∷ []) l = ap (λ (b : Bool). closesWell closes (standsAt g) && (finite (coefficientOf g) && b)) (and-true (finite (netOf g)))
-flat-finite closes (g ∷ h ∷ gs) l =
-    let rest = flat triple (h ∷ gs) ++ l in
-    let m = 3 * length gs in
-    let e : 3 * suc (length gs) ≡ suc (suc (suc m)) = omega arith in
-    let all = standsAt g ∷ coefficientOf g ∷ netOf g ∷ rest in
-    ap (λ (k : ℕ). allFinite (take k all) && closingFinite closes (take 3 (drop k all))) e
-    ∙ regroup (finite (standsAt g)) (finite (coefficientOf g)) (finite (netOf g)) (allFinite (take m rest)) (closingFinite closes (take 3 (drop m rest)))
-    ∙ ap (λ (b : Bool). (finite (standsAt g) && valuesFinite g) && b) (flat-finite closes (h ∷ gs) l)
+unfolding recordsFinite
+flat-finite closes [] l = finite-none closes (flat triple [] ++ l)
+flat-finite closes (g ∷ []) l = finite-last closes l g
+flat-finite closes (g ∷ h ∷ gs) l = finite-more closes l g h gs ∙ ap (λ (b : Bool). (finite (standsAt g) && valuesFinite g) && b) (flat-finite closes (h ∷ gs) l)
 
 coeffs-finite : (closes : Bool) (n : ℕ) (c : List Float) → 3 * n ≤ length c → coeffsFinite closes n c ≡ recordsFinite closes (coeffs n c)
 coeffs-finite closes n c h =

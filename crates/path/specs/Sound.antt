@@ -24,7 +24,7 @@ use Rattle.path.specs.Answers.{ask, inTurn}
 
 -- "The closing offsets of a finished path may be +infinity."
 unfoldable pub pathFinite : PathTpc → Columns → Bool
-unfolding allFinite coeffsFinite
+unfolding allFinite
 pathFinite p c =
     allFinite (take (p .«link_count») (c .offsets))
     && (coeffsFinite (p .«is_finished») (p .«grade_count») (c .grades)

@@ -77,7 +77,6 @@ countLaid top limits (Found s) = list.length (lowering top (limitsOf limits s))
 
 -- the limits laid on the points in turn
 unfoldable pub layAll : List Point → List Limit → List Point
-unfolding insertSpeed
 layAll ps [] = ps
 layAll ps (l ∷ ls) = layAll (insertSpeed ps (l .start) (l .end) (l .value)) ls
 

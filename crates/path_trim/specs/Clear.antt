@@ -26,7 +26,7 @@ dropCount x ps = countBefore x (drop 1 ps)
 
 -- the path without its first d links; its beginning is the offset of link point d
 unfoldable pub withoutLinks : ℕ → Path → Path
-unfolding totals clearPoints
+unfolding totals
 withoutLinks d path =
     let dropped = totals (take d (path .links)) in
     record {

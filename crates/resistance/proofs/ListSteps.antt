@@ -12,8 +12,9 @@ use Rattle.ieee.specs.Number.{+0, _⊖_, _⊗_, allFinite}
 use Rattle.lookup.specs.declared.lin_search_hint.Dir.{Dir}
 use Rattle.lookup.specs.declared.lin_search_hint.Found.{Found}
 use Rattle.lookup.specs.declared.path_res_coeff.PathResCoeff.{PathResCoeff}
-use Rattle.lookup.specs.Coeff.{coeffs, coeffAt, standsAt, coefficientOf, netOf, resVal, coeffsFinite}
+use Rattle.lookup.specs.Coeff.{coeffs, coeffAt, standsAt, coefficientOf, resVal, coeffsFinite}
 use Rattle.lookup.specs.CalcIdx.{Indexed, indexed, findIn, listSound}
+use Rattle.lookup.proofs.Coeffs.{value-way}
 use Rattle.lookup.proofs.Steps.{sound-known}
 use Rattle.lookup.proofs.Place.{found-below}
 use Rattle.link.proofs.Known.{and-both}
@@ -26,7 +27,6 @@ use Rattle.resistance.specs.declared.listed.Searched.{Searched}
 use Rattle.resistance.specs.declared.listed.CoeffAnswer.{CoeffAnswer}
 use Rattle.resistance.specs.declared.listed.NetAnswer.{NetAnswer}
 use Rattle.resistance.specs.Listed.{listAnswer, searchedOf, search, valueSteps, resCoeffOf, resNetOf}
-use Rattle.ieee.proofs.Finite.{add-finite-r, mul-finite-r}
 use Rattle.resistance.proofs.Answered.{settled-no, settled-yes, asked-no, then-no, then-yes, then-done}
 
 -- ---- questions 1 and 2
@@ -98,12 +98,10 @@ last-of-three a b c h k = ap (λ (x : Bool). a && (b && x)) (and-true c) ∙ ap 
 
 -- a value is finite only where every result on the way is
 pub value-finite : (g : PathResCoeff) (x : Float) → allFinite (valueSteps g x) ≡ finite (resVal g x)
-unfolding allFinite resVal
+unfolding allFinite
 value-finite g x =
     let d = x ⊖ standsAt g in
-    let p = coefficientOf g ⊗ d in
-    let up : T (finite (resVal g x)) → T (finite p) = add-finite-r (netOf g) p in
-    last-of-three (finite d) (finite p) (finite (resVal g x)) (λ t. mul-finite-r (coefficientOf g) d (up t)) up
+    last-of-three (finite d) (finite (coefficientOf g ⊗ d)) (finite (resVal g x)) (λ t. value-way g x t .0) (λ t. value-way g x t .1)
 
 -- first is the code's answer to questions 1 and 2
 module _ (i n : ℕ) (c : List Float) {first : Answer} (e : first ≡ listAnswer true n c) where

@@ -19,7 +19,7 @@ use Rattle.resistance.specs.declared.listed.NetAnswer.{NetAnswer}
 
 -- questions 1 and 2 of a list; `also` is question 1 of the call's other numbers
 unfoldable pub listAnswer : Bool → ℕ → List Float → Answer
-unfolding inTurn coeffsFinite listSound
+unfolding inTurn
 listAnswer also n c = inTurn (ask 1 (also && coeffsFinite true n c) ∷ ask 2 (listSound n c) ∷ [])
 
 -- ---- one search
@@ -29,7 +29,6 @@ searchedOf f = record { answer = record { number = f .number; place = f .place }
 
 -- questions 10 and 11, and the index; 0 for a refusal
 unfoldable pub search : Dir → Float → ℕ → List PathResCoeff → Searched
-unfolding findIn
 search dir x hint rs = searchedOf (findIn dir x hint rs)
 
 -- a search that is not made: question n was answered with no
@@ -51,7 +50,7 @@ resCoeffOf i n c =
 
 -- the value at x by record i: questions 1, 2, 11 and 8
 unfoldable pub resNetOf : ℕ → Float → TrainState → ℕ → List Float → NetAnswer
-unfolding listAnswer inTurn stateFinite allFinite resVal
+unfolding listAnswer inTurn allFinite
 resNetOf i x s n c =
     let g = coeffAt (coeffs n c) i in
     let a = inTurn (listAnswer (stateFinite s) n c ∷ ask 11 (ltb i n) ∷ ask 8 (allFinite (valueSteps g x)) ∷ []) in

@@ -62,13 +62,13 @@ calcResKnown dir p s rs =
 -- ---- the public calls: behind questions 1 and 2
 
 unfoldable pub newOf : TrainState → ℕ → List Float → PointAnswer
-unfolding listAnswer newKnown stateFinite
+unfolding listAnswer newKnown
 newOf s n c =
     let a = listAnswer (stateFinite s) n c in
     cond (isDone a) (newKnown s (coeffs n c)) (record { answer = a; point = pointOf 0 })
 
 unfoldable pub calcResOf : Dir → Point → TrainState → ℕ → List Float → PointRes
-unfolding listAnswer calcResKnown stateFinite
+unfolding listAnswer calcResKnown
 calcResOf dir p s n c =
     let a = listAnswer (stateFinite s) n c in
     cond (isDone a) (calcResKnown dir p s (coeffs n c)) (refusedRes a p)

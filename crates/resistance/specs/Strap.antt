@@ -84,7 +84,6 @@ backValue t s rs = resVal (coeffAt rs (backIdx t)) (backOf s)
 
 -- the coefficient of the one record that serves both ends, otherwise "(front value − back value) / length"
 unfoldable pub calcResStrap : Bool → Strap → TrainState → List PathResCoeff → Float
-unfolding resVal
 calcResStrap one t s rs = cond one (coefficientOf (coeffAt rs (frontIdx t))) ((frontValue t s rs ⊖ backValue t s rs) ⊘ lengthOf s)
 
 -- "Times `weight_static`."
@@ -93,7 +92,7 @@ resAt one t s rs = calcResStrap one t s rs ⊗ weightOf s
 
 -- every result on the way, in the order of the operations
 unfoldable pub resSteps : Bool → Strap → TrainState → List PathResCoeff → List Float
-unfolding resVal calcResStrap
+unfolding calcResStrap
 resSteps one t s rs =
     cond one
     (resAt one t s rs ∷ [])
@@ -130,13 +129,13 @@ calcResKnown dir t s rs =
 -- ---- the public calls: behind questions 1 and 2
 
 unfoldable pub newOf : TrainState → ℕ → List Float → StrapAnswer
-unfolding listAnswer newKnown stateFinite
+unfolding listAnswer newKnown
 newOf s n c =
     let a = listAnswer (stateFinite s) n c in
     cond (isDone a) (newKnown s (coeffs n c)) (noStrap a)
 
 unfoldable pub calcResOf : Dir → Strap → TrainState → ℕ → List Float → StrapRes
-unfolding listAnswer calcResKnown stateFinite
+unfolding listAnswer calcResKnown
 calcResOf dir t s n c =
     let a = listAnswer (stateFinite s) n c in
     cond (isDone a) (calcResKnown dir t s (coeffs n c)) (refusedRes a t)

@@ -20,7 +20,6 @@ use Rattle.train.specs.Position.{frontOf, backOf, stateFinite}
 
 -- "The last link point at or before" x
 unfoldable pub pointBehind : Float → List LinkPoint → LinkPoint
-unfolding lastNotAfter
 pointBehind x ps = linkPointAt ps (lastNotAfter (λ i. offsetOf (linkPointAt ps i)) x (length ps - 1))
 
 -- how far the front is from the beginning of its link

@@ -5,9 +5,10 @@ use mathlib.Core.Path.{_≡_, sym, _∙_}
 use mathlib.Core.Bool.{Bool}
 use mathlib.Core.List.{map}
 use native.Mathlib.Omega.{arith}
+use borrow.Author.Needs.{needs}
 use Rattle.link.specs.Lists.{upFrom, firstNoFrom}
 use Rattle.link.specs.Questions.{hasSet, numberAt, numbers, question7}
-use Rattle.link.proofs.Judging.{said-no-of, said-yes-of}
+use Rattle.link.proofs.Formed.{set-none, set-some}
 use Rattle.link.proofs.Loops.{first-pass, first-fail, first-end}
 use Rattle.link.proofs.questions.question7.Statement.{statement}
 use Rattle.link.proofs.questions.question7.Tie as tie
@@ -32,17 +33,23 @@ loop-holds c = rw (sub-zero (c .before .before .args .count))
 number-at-requires : tie.Need-number-at-requires Inv-loop μ-loop
 number-at-requires c κs = tt
 
-cast-has-set : tie.Need-cast-has-set Inv-loop μ-loop
-cast-has-set c = omega (arith, c .number-at .ok)
+cast-set-for : tie.Need-cast-set-for Inv-loop μ-loop
+cast-set-for c = omega (arith, c .number-at .ok)
 
-has-set-requires : tie.Need-has-set-requires Inv-loop μ-loop
-has-set-requires c κs = omega (arith, c .number-at .ok)
+set-for-requires : tie.Need-set-for-requires Inv-loop μ-loop
+set-for-requires c κs = omega (arith, c .number-at .ok)
+
+enum-told : tie.Need-enum-told Inv-loop μ-loop
+enum-told c = search needs
+
+enum-told-2 : tie.Need-enum-told-2 Inv-loop μ-loop
+enum-told-2 c = search needs
 
 returns : tie.Need-returns Inv-loop μ-loop
 returns c =
-    let s = c .before .before .before .before .before .before .before in
-    let k = c .before .before .before .before .loop .k in
-    sym (first-fail (at s) (ok s) k (s .args .count) (c .before .before .before .loop-test .taken) (said-no-of (ok s) (c .before .before .number-at .result) (at s k) (c .before .has-set .ensures) (c .before .before .number-at .ensures) (c .if1 .taken))) ∙ c .before .before .before .before .loop .inv
+    let s = c .before .before .before .before .before .before .before .before in
+    let k = c .before .before .before .before .before .loop .k in
+    sym (first-fail (at s) (ok s) k (s .args .count) (c .before .before .before .before .loop-test .taken) (set-none (s .args .sets .now) (s .args .t) (c .before .before .set-for .ensures) (c .before .before .before .number-at .ensures) (c .enum-told2 .given .1))) ∙ c .before .before .before .before .before .loop .inv
 
 add-k : tie.Need-add-k Inv-loop μ-loop
 add-k c = omega arith
@@ -52,9 +59,9 @@ loop-less c = omega arith
 
 loop-again : tie.Need-loop-again Inv-loop μ-loop
 loop-again c =
-    let s = c .before .before .before .before .before .before .before in
-    let k = c .before .before .before .before .loop .k in
-    sym (first-pass (at s) (ok s) k (s .args .count) (c .before .before .before .loop-test .taken) (said-yes-of (ok s) (c .before .before .number-at .result) (at s k) (c .before .has-set .ensures) (c .before .before .number-at .ensures) (c .if1 .left))) ∙ c .before .before .before .before .loop .inv
+    let s = c .before .before .before .before .before .before .before .before in
+    let k = c .before .before .before .before .before .loop .k in
+    sym (first-pass (at s) (ok s) k (s .args .count) (c .before .before .before .before .loop-test .taken) (set-some (s .args .sets .now) (s .args .t) (c .before .before .set-for .ensures) (c .before .before .before .number-at .ensures) (c .enum-told .given .1))) ∙ c .before .before .before .before .before .loop .inv
 
 returns-2 : tie.Need-returns-2 Inv-loop μ-loop
 returns-2 c =
@@ -69,8 +76,10 @@ question7-spec =
     μ-loop
     loop-holds
     number-at-requires
-    cast-has-set
-    has-set-requires
+    cast-set-for
+    set-for-requires
+    enum-told
+    enum-told-2
     returns
     add-k
     loop-less

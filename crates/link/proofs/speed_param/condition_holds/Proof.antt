@@ -1,5 +1,6 @@
 -- `condition_holds`: the three entries, the kind, and then the comparison.
-use Rattle.link.specs.Condition.{holds}
+use Rattle.link.specs.Condition.{paramOf, holds}
+use Rattle.link.proofs.Conditions.{same-param}
 use borrow.Author.Needs.{needs}
 use Rattle.link.proofs.speed_param.condition_holds.Statement.{statement}
 use Rattle.link.proofs.speed_param.condition_holds.Tie as tie
@@ -30,7 +31,7 @@ param-holds-requires c κs = search needs
 
 returns : tie.Need-returns
 unfolding holds
-returns c = cc
+returns c = cc (same-param (c .before .speed-param .result) (paramOf (c .before .before .before .before .get .result) (c .before .before .get3 .result)) (c .before .speed-param .ensures))
 
 pub condition-holds-spec : {M : Type 1} → statement M
 condition-holds-spec =
