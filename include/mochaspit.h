@@ -39,9 +39,12 @@
  *
  * CALLS
  *
- * Each call has the name and does the work of one of the original Rust, mochaspit_point_ and mochaspit_strap_ standing for its types
- * Point and Strap. Added to these are mochaspit_link_grades and mochaspit_link_curves, and two calls that do in one what others do one
- * by one: mochaspit_clear_each for mochaspit_clear, mochaspit_strap_walk for mochaspit_strap_calc_res.
+ * The original's, under its names, mochaspit_point_ and mochaspit_strap_ standing for its types Point and Strap: mochaspit_new, _extend,
+ * _clear, _finish, _recalc_speeds, _reindex, _calc_idx, _set_link_and_offset, and of both types _new, _calc_res, _res_coeff_front,
+ * _res_net_front, _path_tpc_idx_front, _fix_cache, of the strap _res_coeff_back and _res_net_back; and a link's records, which are added:
+ * mochaspit_link_grades, mochaspit_link_curves.
+ * Calls of our own, each of which does in one what others do one by one: mochaspit_clear_each for mochaspit_clear, mochaspit_strap_walk
+ * for mochaspit_strap_calc_res.
  *
  *
  * COLUMNS
