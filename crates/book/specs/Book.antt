@@ -1,4 +1,4 @@
--- The book of a path's calls: document 01. It is fed the train, each call's arguments and whether the call was done, and nothing of the path.
+-- The book of a path's calls, R86 to R89. It is told the train, each call's arguments and whether the call was done, and nothing of the path.
 -- Definitions only.
 use Prim.Native.Nat.{ℕ, _-_}
 use mathlib.Core.Bool.{Bool, cond}
@@ -16,7 +16,7 @@ use Rattle.path_speeds.specs.Limits.{setsOf, lowering, layAll, enteringAt}
 
 -- ---- the calls
 
--- "extensions, trims, reindexings and finishings", with the arguments of each but the path and its columns
+-- extensions, trims, reindexings and finishings (R90), with the arguments of each but the path and its columns
 pub data Call : Type 0 where
   extend : LinkTable → List ℕ → Call
   clear : Float → Call
@@ -30,7 +30,7 @@ pub record Told : Type 0 where
 
 -- ---- the book
 
--- "holds ends (at `new` 0 alone), applying limits (none) and speed points (the one of `new`)"
+-- R86: ends, applying limits and speed points
 pub record Book : Type 0 where
   pub ends : List Float
   pub limits : List Limit
@@ -45,8 +45,8 @@ firstEnd ends = getD ends 0 nan
 abbrev pub lastEnd : List Float → Float
 lastEnd ends = getD ends (length ends - 1) nan
 
--- "base is the last end; if the link's set applies, its limits enter, base and tail added, and those below the top speed are laid on the points by
--- `insert_speed`; base + length becomes the next end"
+-- R87: base is the last end; where the set for the train applies its limits enter, base and tail added, and those below the top speed are laid on the
+-- points; the next end is base + length
 unfoldable pub enterLink : TrainParams → LinkTable → Book → ℕ → Book
 unfolding enteringAt lowering layAll linkAt
 enterLink train t b n =
@@ -63,7 +63,7 @@ unfolding enterLink
 enterLinks train t b [] = b
 enterLinks train t b (n ∷ ns) = enterLinks train t (enterLink train t b n) ns
 
--- "while the second end is before the offset, the first goes"
+-- R88: as long as the second end is before x the first one goes
 unfoldable pub dropEndsFrom : Float → Float → List Float → List Float
 dropEndsFrom x e [] = e ∷ []
 dropEndsFrom x e (f ∷ fs) = cond (Ieee.lt f x) (dropEndsFrom x f fs) (e ∷ f ∷ fs)
@@ -73,14 +73,14 @@ unfolding dropEndsFrom
 dropEnds x [] = []
 dropEnds x (e ∷ es) = dropEndsFrom x e es
 
--- "then the points change by rule 1 of the differences below, X being the first end"
+-- R88: then the points change by R52, X being the first end
 unfoldable pub dropBehind : Float → Book → Book
 unfolding dropEnds
 dropBehind x b =
     let ends = dropEnds x (b .ends) in
     record { ends = ends; limits = b .limits; points = clearPoints (b .points) (firstEnd ends) }
 
--- "`reindex`, `finish` and refusals change nothing"
+-- R89: all else changes nothing
 unfoldable pub enterCall : TrainParams → Call → Book → Book
 unfolding enterLinks dropBehind
 enterCall train (extend t ns) b = enterLinks train t b ns

@@ -19,21 +19,21 @@ use Rattle.link.specs.Table.{Limit}
 use Rattle.path_speeds.specs.Limits.{lowers}
 use Rattle.book.specs.Book.{Book, firstEnd}
 
--- "the posted speed at an offset is that of the last point at or before it"
+-- R18: the speed of the last point not after x
 abbrev pub postedAt : List Point → Float → Float
 postedAt points x = posted x points nan
 
--- "it covers the offsets from s up to but not including e"
+-- R19: from its start up to, but not including, its end
 abbrev pub coversAt : Limit → Float → Bool
 coversAt l x = covers (l .start) (l .end) x
 
 -- the speed posted at x, u, against the book
 pub record PostedRight (train : TrainParams) (b : Book) (x u : Float) : Type 0 where
-  -- "in size at most the top speed"
+  -- R93: in size at most the top speed
   pub at-most-top : T (Ieee.le (size u) (topSpeed train))
-  -- "and at most the size of each applying limit that covers the offset, limits of dropped links included"
+  -- R93: and at most each applying limit that covers the offset, limits of dropped links among them
   pub at-most-limits : (l : Limit) → List·Memᴰ l (b .limits) → T (coversAt l x) → T (Ieee.le (size u) (size (l .value)))
-  -- "its size is the top speed's or that of a limit laid that starts no later"
+  -- R94: its size is that of the top speed, or of a limit laid that starts not after the offset
   pub attained :
       T (Ieee.eq (size u) (size (topSpeed train)))
       ⊎ ((l : Limit) × List·Memᴰ l (b .limits) × T (lowers (topSpeed train) l) × T (Ieee.le (l .start) x) × T (Ieee.eq (size u) (size (l .value))))
@@ -63,9 +63,9 @@ pub record Claims (train : TrainParams) (b : Book) : Type 0 where
   pub some-end : 0 < length (b .ends)
   pub ends-good : Offsets (b .ends)
   pub ends-rise : Rising (b .ends)
-  -- "start at the path's beginning and their offsets never fall"
+  -- R92: the first point stands at the path's beginning, and offsets never fall
   pub starts : offsetAt (b .points) 0 ≡ firstEnd (b .ends)
   pub in-order : Sorted (b .points)
   pub points-good : Every Offset Finite (b .points)
-  -- "at every offset from the path's beginning on, the posted speed .."
+  -- R93 and R94, at every offset not before the path's beginning
   pub speeds : (x : Float) → T (Ieee.le (firstEnd (b .ends)) x) → PostedRight train b x (postedAt (b .points) x)

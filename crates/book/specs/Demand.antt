@@ -43,7 +43,7 @@ pub record Ran : Type 0 where
   pub columns : Columns
   pub told : List Told
 
--- "each call getting the path and its columns as the last one left them"
+-- R90: each call gets the path and its columns as the one before left them
 unfoldable pub run : TrainParams → List Call → PathTpc → Columns → Ran
 unfolding callOf
 run train [] p c = record { path = p; columns = c; told = [] }
@@ -80,8 +80,7 @@ CallsF64 (x ∷ xs) = CallF64 x × CallsF64 xs
 abbrev pub firstRecord : (LinkPoint → ℕ) → List LinkPoint → ℕ → ℕ
 firstRecord count links k = total count (take k links)
 
--- "The path's beginning is the first end, link k's offset end k, from 0": the records of each link, of which its link point counts `count`, are there, and
--- begin at that end
+-- R95: link k's offset is end k; its records, of which its link point counts `count`, are in the list and begin at that end
 abbrev pub BeginAtEnds : (LinkPoint → ℕ) → List LinkPoint → List PathResCoeff → List Float → Type 0
 BeginAtEnds count links rs ends =
     (k : ℕ) → k + 1 < length ends → (firstRecord count links k < length rs) × (coeff.offsetAt rs (firstRecord count links k) ≡ getD ends k nan)
@@ -90,17 +89,17 @@ BeginAtEnds count links rs ends =
 pub record Kept (train : TrainParams) (path : Path) (b : Book) : Type 0 where
   -- there is an end: the path's beginning
   pub some-end : 0 < length (b .ends)
-  -- "the link points stand at the book's ends, one for one"
+  -- R91: the link points stand at the book's ends, one for one
   pub links : map offsetOf (path .links) ≡ b .ends
-  -- "the speed points are to the bit those of 01's book of the calls,
+  -- R91: the speed points are to the bit the book's
   pub points : path .speeds ≡ b .points
-  -- start at the path's beginning
+  -- R92: the first stands at the path's beginning
   pub begins : offsetAt (path .speeds) 0 ≡ firstEnd (b .ends)
-  -- and their offsets never fall"
+  -- R92: and offsets never fall
   pub sorted : Sorted (path .speeds)
-  -- "at every offset from the path's beginning on, the posted speed .."
+  -- R93 and R94, at every offset not before the path's beginning
   pub speeds : (x : Float) → T (Ieee.le (firstEnd (b .ends)) x) → PostedRight train b x (postedAt (path .speeds) x)
-  -- "each link's grades and curves begin at its offset"
+  -- R95: each link's grades and curves begin at its offset
   pub grades : BeginAtEnds (countOf false) (path .links) (path .grades) (b .ends)
   pub curves : BeginAtEnds (countOf true) (path .links) (path .curves) (b .ends)
 

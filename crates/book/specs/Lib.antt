@@ -1,4 +1,4 @@
--- The definitions of the crate `book`: document 01's book of the calls, what is claimed of it, and demand 3.
+-- The definitions of the crate `book`: the book of the calls, what is claimed of it, demand 3, and lists of trims.
 pub mod Book
 pub mod Claims
 pub mod Demand

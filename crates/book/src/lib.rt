@@ -1,1 +1,1 @@
-// Document 01's book of a path's calls, and demand 3: definitions and theorems, no code.
+// The book of a path's calls (R86), and demand 3 (R90): definitions and theorems, no code.

@@ -1,4 +1,4 @@
--- Numbers of binary64 in the words of document 01: sign, size, zero, and the operations with one rounding each. Definitions only.
+-- Numbers of binary64, R2 to R5: sign, size, zero, and the operations with one rounding each. Definitions only.
 use mathlib.Core.Bool.{Bool, true, false, _&&_}
 use mathlib.Core.List.{List, [], _∷_}
 use lib.Dec.{eqb}
@@ -37,7 +37,7 @@ abbrev pub +0 : Float
 abbrev pub +∞ : Float
 +∞ = inf false
 
--- "A size is a number without its sign."
+-- R4: the same number with a clear sign bit
 abbrev pub size : Float → Float
 size nan = nan
 size (inf s) = inf false

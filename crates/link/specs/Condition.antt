@@ -1,4 +1,4 @@
--- Conditions of a speed set: document 01, speed_param.rs and train_params.rs. Definitions only.
+-- Conditions of a speed set, R25 to R29: speed_param.rs and train_params.rs. Definitions only.
 use Prim.Native.Nat.{ℕ}
 use mathlib.Core.Bool.{Bool, false, _&&_, cond}
 use mathlib.Core.List.{List}
@@ -21,13 +21,13 @@ pub record Condition : Type 0 where
   pub comparison : ℕ
   pub value : Float
 
--- "A condition carries its limit value with its kind: total mass, mass per brake, or axles." The kinds' codes are the Rust's: 3, 4, 5.
+-- R25: the value goes with its kind, total mass, mass per brake or axles; the kinds' codes are the Rust's: 3, 4, 5
 unfoldable pub paramOf : ℕ → Float → ParamFound
 paramOf kind v =
     cond (eqb kind 3) (Known (MassTotal v)) (cond (eqb kind 4) (Known (MassPerBrake v)) (cond (eqb kind 5) (Known (AxleCount v)) Unknown))
 
--- a kind looked up by its code, in document 01's terms: the number of the question that an unknown code is refused by, the code and the value, 0 and +0
--- for a refusal
+-- a kind looked up by its code, as R102 wants it told: the number of the question that refuses an unknown code, the code and the value, 0 and +0 for a
+-- refusal
 pub record ParamTold : Type 0 where
   pub number : ℕ
   pub kind : ℕ
@@ -43,24 +43,24 @@ valueOf (MassTotal v) = v
 valueOf (MassPerBrake v) = v
 valueOf (AxleCount v) = v
 
--- number, code and value of each case of the enum; question 6: "Is each link well formed?", its "codes known"
+-- R102: number, code and value of each case of the enum; question 6 (R109) asks for known codes
 abbrev pub paramTold : ParamFound → ParamTold
 paramTold (Known p) = record { number = 0; kind = kindOf p; value = valueOf p }
 paramTold Unknown = record { number = 6; kind = 0; value = +0 }
 
--- "Comparison codes 1 to 5: =, >, <, ≥, ≤": which of the five a code asks for
+-- R26: which of =, >, <, ≥, ≤ the codes 1 to 5 ask for
 unfoldable pub byCode : ℕ → Bool → Bool → Bool → Bool → Bool → Bool
 byCode code equal above below notBelow notAbove =
     cond (eqb code 1) equal (cond (eqb code 2) above (cond (eqb code 3) below (cond (eqb code 4) notBelow (cond (eqb code 5) notAbove false))))
 
--- "train's figure on the left"
+-- R26: the train's figure on the left
 abbrev pub comparesFloat : ℕ → Float → Float → Bool
 comparesFloat code figure limit = byCode code (Ieee.eq figure limit) (Ieee.lt limit figure) (Ieee.lt figure limit) (Ieee.le limit figure) (Ieee.le figure limit)
 
 abbrev pub comparesCount : ℕ → ℕ → ℕ → Bool
 comparesCount code figure limit = byCode code (eqb figure limit) (ltb limit figure) (ltb figure limit) (leb limit figure) (leb figure limit)
 
--- "For axles the value becomes a u32 as Rust's `as` does": toward zero, to the nearest end of the range, a NaN to 0
+-- R27: the value as a u32, toward zero, to the nearest end of the range, a NaN to 0
 unfoldable pub axleLimit : Float → ℕ
 axleLimit v = Ieee.toUnsigned 32 v
 
@@ -75,7 +75,7 @@ unfoldable pub holds : TrainParams → Condition → Bool
 unfolding paramHolds paramOf
 holds train c = paramHolds train (c .comparison) (paramOf (c .kind) (c .value))
 
--- "A set applies if its first condition holds and the rest of the list applies; an empty list applies."
+-- R29: a set applies where each of its conditions holds
 abbrev pub applies : TrainParams → List Condition → Bool
 applies train cs = every (holds train) cs
 

@@ -21,6 +21,6 @@ unfoldable pub firstNoFrom : ℕ → List Bool → Judged
 firstNoFrom i [] = Yes
 firstNoFrom i (yes? ∷ answers) = cond yes? (firstNoFrom (suc i) answers) (NoAt i)
 
--- "the first failing position, from 0"
+-- R98: the first position that fails, from 0
 abbrev pub firstNo : List Bool → Judged
 firstNo answers = firstNoFrom 0 answers

@@ -1,4 +1,4 @@
--- Questions 4 to 7 of document 01, put to one link and to a list of links. Definitions only.
+-- Questions 4 to 7 (R107 to R110), put to one link and to a list of links. Definitions only.
 use Prim.Native.Nat.{ℕ, _+_, _*_}
 use mathlib.Core.Bool.{Bool, true, false, not, _&&_, _||_, cond}
 use mathlib.Core.List.{List, [], _∷_, map}
@@ -16,12 +16,12 @@ use Rattle.link.specs.Lists.{every, upFrom, firstNo}
 use Rattle.link.specs.Condition.{conditionFormed}
 use Rattle.link.specs.Table.{LinkTable, Sample, Limit, PowerLimit, inTable, numbersOf, linkAt, setAt, inside, isPresent, conditionsOf, limitsOf, setFor, setTold}
 
--- ---- question 4: "Is each link number real (not 0) and in the table?"
+-- ---- question 4 (R107): the number is not 0 and in the table
 
 unfoldable pub realIn : List ℕ → List Float → List ℕ → ℕ → Bool
 realIn links lengths sets n = not (eqb n 0) && inTable links lengths sets n
 
--- ---- question 5: "Does each link follow the one before (its `idx_curr`), alternatives as `extend` checks?"
+-- ---- question 5 (R108): each link follows the one before
 
 -- an alternative is another link than the one it stands beside, or 0 for none
 abbrev pub apart : ℕ → ℕ → Bool
@@ -33,14 +33,14 @@ follows prev link =
     && (apart (link .«idx_prev») (link .«idx_prev_alt»)
     && (apart (link .«idx_next») (link .«idx_next_alt») && (eqb (link .«idx_prev») prev || eqb (link .«idx_prev_alt») prev)))
 
--- ---- question 6: "Is each link well formed?"
+-- ---- question 6 (R109): the link is well formed
 
--- "offsets rising strictly .. to the length": o is the offset before these
+-- R109: offsets rise strictly to the length; o is the offset before these
 unfoldable pub riseTo : Float → Float → List Sample → Bool
 riseTo length o [] = Ieee.eq o length
 riseTo length o (s ∷ ss) = Ieee.lt o (s .offset) && riseTo length (s .offset) ss
 
--- "elevations and headings none or at least two, offsets rising strictly from 0 to the length"
+-- R109: none or at least two, offsets from 0 to the length
 unfoldable pub spans : Float → List Sample → Bool
 unfolding riseTo
 spans length [] = true
@@ -54,7 +54,7 @@ unfoldable pub samplesFormed : Float → List Sample → Bool
 unfolding every spans sampleFinite
 samplesFormed length ss = every sampleFinite ss && spans length ss
 
--- "speed and power limits with 0 ≤ start ≤ end", every number finite
+-- R109: 0 ≤ start ≤ end, every number finite
 unfoldable pub limitFormed : Limit → Bool
 limitFormed l = finite (l .start) && (finite (l .end) && (finite (l .value) && (Ieee.le +0 (l .start) && Ieee.le (l .start) (l .end))))
 
@@ -65,7 +65,7 @@ powerFormed p = limitFormed (p .limit)
 abbrev pub knownFlag : ℕ → Bool
 knownFlag f = leb f 1
 
--- a set that is present: "codes known, at most 64 conditions", its ranges inside their pools
+-- R109, a set that is present: known codes, at most 64 conditions, its ranges inside their pools
 unfoldable pub presentFormed : List ℕ → List Float → List Float → SpeedSet → Bool
 unfolding every conditionFormed limitFormed
 presentFormed codes values limits s =
@@ -88,7 +88,7 @@ inPools elevs headings powers districts n =
     && (inside 2 (n .«headings_first») (n .«headings_count») headings
     && (inside 3 (n .«powers_first») (n .«powers_count») powers && inside 1 (n .«powers_first») (n .«powers_count») districts))
 
--- "`idx_curr` its own place, length above 0", and the rest
+-- R109: `idx_curr` is its place in the table, the length is above 0, and the rest
 unfoldable pub wellFormed : LinkTable → ℕ → Bool
 unfolding inPools samplesFormed setFormed every limitFormed linkAt
 wellFormed t n =
@@ -101,7 +101,7 @@ wellFormed t n =
     && (samplesFormed (link .length) (link .headings)
     && (every powerFormed (link .powers) && every (setFormed (t .codes) (t .values) (t .limits)) (upFrom (link .set) 0 8)))))))
 
--- ---- question 7: "Is there a set for the train?"
+-- ---- question 7 (R110): there is a set for the train
 
 unfoldable pub hasSet : List ℕ → TrainType → ℕ → Bool
 unfolding setFor setAt
@@ -120,7 +120,7 @@ unfoldable pub question4 : List ℕ → List Float → List ℕ → List ℕ →
 unfolding realIn
 question4 links lengths sets ns = firstNo (map (realIn links lengths sets) ns)
 
--- "Contiguity and the alternative-link checks start with the path's second link": the first of the list is asked where the path has a link, `last`
+-- R48: the first of the list is asked where the path has a link, `last`
 unfoldable pub contiguous : List ℕ → Bool → ℕ → List ℕ → List Bool
 unfolding follows
 contiguous links asked last [] = []

@@ -131,12 +131,12 @@ conditionsOf codes values s = upFrom (conditionAt codes values) (s .«params_fir
 abbrev pub limitsOf : List Float → SpeedSet → List Limit
 limitsOf limits s = upFrom (limitAt limits) (s .«limits_first») (s .«limits_count»)
 
--- "The set is the link's single one, or the one for the train's type": of the set places of a link, place 0 or place 1 + type
+-- R30: of the set places of a link place 0, or place 1 + type
 unfoldable pub setFor : (ℕ → SpeedSet) → TrainType → SetFound
 setFor set type =
     cond (isPresent (set 0)) (Found (set 0)) (cond (isPresent (set (suc (typeNumber type)))) (Found (set (suc (typeNumber type)))) Missing)
 
--- a set looked up, in document 01's terms: the number of the question that a missing one is refused by, and the set, of zeros for a refusal
+-- a set looked up, as R102 wants it told: the number of the question that refuses a missing one, and the set, of zeros for a refusal
 pub record SetTold : Type 0 where
   pub number : ℕ
   pub set : SpeedSet
@@ -144,7 +144,7 @@ pub record SetTold : Type 0 where
 abbrev pub noSet : SpeedSet
 noSet = record { present = 0; «is_head_end» = 0; «params_first» = 0; «params_count» = 0; «limits_first» = 0; «limits_count» = 0 }
 
--- number and set of each case of the enum; question 7: "Is there a set for the train?"
+-- R102: number and set of each case of the enum; question 7 (R110) refuses a missing one
 abbrev pub setTold : SetFound → SetTold
 setTold (Found s) = record { number = 0; set = s }
 setTold Missing = record { number = 7; set = noSet }

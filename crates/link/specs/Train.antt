@@ -1,4 +1,4 @@
--- The train's figures as plain numbers: document 01, train_params.rs. Definitions only.
+-- The train's figures as plain numbers, R15 and R16: train_params.rs. Definitions only.
 use Prim.Native.Nat.{ℕ}
 use lib.Ieee.{Float}
 use Rattle.link.specs.declared.train_params.TrainType.{TrainType}

@@ -1,4 +1,4 @@
--- Where a search ends: between the hint and the list's end, and at the first, or last, record that document 01 names.
+-- Where a search ends: between the hint and the list's end, and at the record that R60 or R61 names.
 use Prim.Native.Nat.{ℕ, zero, suc, _+_, _-_, _≤_, _<_}
 use native.Mathlib.Nat.{not-suc-le-zero, le-of-suc-le-suc}
 use native.Mathlib.Omega.{arith}

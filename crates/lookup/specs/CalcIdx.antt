@@ -1,4 +1,4 @@
--- `calc_idx` on a list searched alone: questions 1, 2, 10 and 11 of document 01, and what each case of the answer says. Definitions only.
+-- `calc_idx` on a list searched alone, R62: questions 1, 2, 10 and 11 (R123), and what each case of the answer says. Definitions only.
 use Prim.Native.Nat.{ℕ, _*_}
 use mathlib.Core.Bool.{Bool, _&&_, cond}
 use mathlib.Core.List.{List}
@@ -14,7 +14,7 @@ use Rattle.lookup.specs.declared.path_res_coeff.PathResCoeff.{PathResCoe
 use Rattle.lookup.specs.Coeff.{coeffs, coeffsFinite}
 use Rattle.lookup.specs.Search.{searched, inRange, hintAllowed}
 
--- an answer in document 01's terms: number, place, and the index found, 0 for a refusal
+-- an answer as R102 wants it told: number, place, and the index found, 0 for a refusal
 pub record Indexed : Type 0 where
   pub number : ℕ
   pub place : ℕ

@@ -1,4 +1,4 @@
--- Grade and curve records in a column, three entries to a record: document 01, path_res_coeff.rs. Definitions only.
+-- Grade and curve records in a column, three entries to a record, R59 and R63: path_res_coeff.rs. Definitions only.
 use Prim.Native.Nat.{ℕ, zero, suc, _*_}
 use mathlib.Core.Bool.{Bool, true, _&&_, _||_}
 use mathlib.Core.List.{List, [], _∷_}
@@ -46,7 +46,7 @@ coeffAt rs i = getD rs i noCoeff
 abbrev pub offsetAt : List PathResCoeff → ℕ → Float
 offsetAt rs i = standsAt (coeffAt rs i)
 
--- "a value is net + coefficient × (offset − the record's)", one rounding a step
+-- R63, one rounding a step
 unfoldable pub resVal : PathResCoeff → Float → Float
 resVal g offset = netOf g ⊕ coefficientOf g ⊗ (offset ⊖ standsAt g)
 
@@ -59,7 +59,7 @@ unfoldable pub closingFinite : Bool → List Float → Bool
 closingFinite closes [] = true
 closingFinite closes (o ∷ l) = closesWell closes o && allFinite l
 
--- question 1 of n records: "Records are read up to the count or the column's end."
+-- question 1 (R104) of n records, read up to the count or the column's end
 unfoldable pub coeffsFinite : Bool → ℕ → List Float → Bool
 unfolding closingFinite
 coeffsFinite closes zero c = true

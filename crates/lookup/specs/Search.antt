@@ -1,4 +1,4 @@
--- The search from a hint: document 01, lin_search_hint.rs and path_res_coeff.rs, `calc_idx`. Total on every list. Definitions only.
+-- The search from a hint, R60 and R61: lin_search_hint.rs and path_res_coeff.rs, `calc_idx`. Total on every list. Definitions only.
 use Prim.Native.Nat.{ℕ, zero, suc, _+_, _-_}
 use mathlib.Core.Bool.{Bool, cond}
 use mathlib.Core.List.{List, [], _∷_}
@@ -16,7 +16,7 @@ unfoldable pub countBefore : Float → List PathResCoeff → ℕ
 countBefore x [] = 0
 countBefore x (g ∷ rs) = cond (Ieee.lt (standsAt g) x) (suc (countBefore x rs)) 0
 
--- "Fwd and Unk: the first record from the hint on whose successor is not before the offset; never back."
+-- R60: Fwd and Unk go up to the first record whose successor is not before the offset
 unfoldable pub forwards : Float → ℕ → List PathResCoeff → ℕ
 unfolding countBefore
 forwards x hint rs = hint + countBefore x (drop (suc hint) rs)
@@ -26,7 +26,7 @@ unfoldable pub lastNotAfter : (ℕ → Float) → Float → ℕ → ℕ
 lastNotAfter at x zero = zero
 lastNotAfter at x (suc i) = cond (Ieee.lt x (at (suc i))) (lastNotAfter at x i) (suc i)
 
--- "Bwd: the last record up to the hint that is not after the offset."
+-- R61: Bwd goes down to the first record that is not after the offset
 abbrev pub backwards : Float → ℕ → List PathResCoeff → ℕ
 backwards x hint rs = lastNotAfter (offsetAt rs) x hint
 
@@ -36,13 +36,13 @@ searched Unk x hint rs = forwards x hint rs
 searched Fwd x hint rs = forwards x hint rs
 searched Bwd x hint rs = backwards x hint rs
 
--- question 10: "a Fwd or Unk search not past the last record; a Bwd one not before the first"
+-- question 10 (R113): Fwd and Unk not past the last record, Bwd not before the first
 unfoldable pub inRange : Dir → Float → List PathResCoeff → Bool
 inRange Unk x rs = Ieee.le x (offsetAt rs (length rs - 1))
 inRange Fwd x rs = Ieee.le x (offsetAt rs (length rs - 1))
 inRange Bwd x rs = Ieee.le (offsetAt rs 0) x
 
--- question 11: "Fwd, Unk below the last index; Bwd an index"
+-- question 11 (R114): Fwd and Unk from below the last index, Bwd from an index
 unfoldable pub hintAllowed : Dir → ℕ → List PathResCoeff → Bool
 hintAllowed Unk hint rs = ltb (suc hint) (length rs)
 hintAllowed Fwd hint rs = ltb (suc hint) (length rs)

@@ -1,5 +1,4 @@
--- Questions and answers: "The first "no" gives its question's number; the place is, for 4 to 8, the first failing position, else 0. Done is 0,
--- place 0." Definitions only.
+-- Questions and answers, R98 to R101: the first no gives number and place; done is 0, place 0. Definitions only.
 use Prim.Native.Nat.{ℕ}
 use mathlib.Core.Bool.{Bool, cond}
 use mathlib.Core.List.{List, [], _∷_}
@@ -58,7 +57,7 @@ unfoldable pub changed : Columns → Path → Outcome
 unfolding recordOf columnsOf
 changed c after = left (record { answer = done; path = recordOf after }) (columnsOf c after)
 
--- "A refusal hands back every record and column as it came."
+-- R101: refused, the record and every column come back as they were
 unfoldable pub outcome : Answer → PathTpc → Columns → Path → Outcome
 unfolding changed
 outcome a p c after = cond (isDone a) (changed c after) (left (record { answer = a; path = p }) c)

@@ -37,7 +37,7 @@ abbrev pub columns : List Float → List ℕ → List Float → List Float → L
 columns offsets numbers grades curves speeds powers districts =
     record { offsets = offsets; numbers = numbers; grades = grades; curves = curves; speeds = speeds; powers = powers; districts = districts }
 
--- "Column bounds: 1,025 link points, 16,384 grades, 16,384 curves, 4,096 speed points, 1,024 power limits. A shorter lent column is the bound."
+-- R12: 1,025 link points, 16,384 grades, 16,384 curves, 4,096 speed points, 1,024 power limits, or what a shorter column holds
 -- n is at most each of three figures
 abbrev pub withinAll : ℕ → ℕ → ℕ → ℕ → Bool
 withinAll n bound a b = leb n bound && (leb n a && leb n b)
@@ -142,7 +142,7 @@ pathOf p c =
       finished = p .«is_finished»;
     }
 
--- "After an accepted call that may change a path, column entries past the counts are zero, +0 for f64."
+-- R14: past the counts all entries are zero, +0 for f64
 unfoldable pub columnsOf : Columns → Path → Columns
 columnsOf c path =
     record {

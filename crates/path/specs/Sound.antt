@@ -1,4 +1,4 @@
--- Questions 1, 2 and 3 of document 01, as they are put to a path and a train. Definitions only.
+-- Questions 1, 2 and 3 (R104 to R106), as they are put to a path and a train. Definitions only.
 use Prim.Native.Nat.{ℕ, _+_, _-_, _*_}
 use mathlib.Core.Bool.{Bool, true, false, not, _&&_, _||_, cond}
 use mathlib.Core.List.{List, [], _∷_}
@@ -19,10 +19,9 @@ use Rattle.path.specs.declared.link_point.LinkPoint.{LinkPoint}
 use Rattle.path.specs.Records.{Columns, fitsLinks, fitsGrades, fitsCurves, fitsSpeeds, fitsPowers, linkPoint, offsetOf, gradeCount, curveCount, powerCount, numberOf, Path, linkPointAt, endPoint, lastCoeff, pathOf, recordOf}
 use Rattle.path.specs.Answers.{ask, inTurn}
 
--- ---- question 1: "Are the numbers of path, train, position and plain arguments finite, the length in train and position above 0, the top
--- speed not below 0?"
+-- ---- question 1 (R104): the numbers are finite, a train's length is above 0 and its top speed not below 0
 
--- "The closing offsets of a finished path may be +infinity."
+-- R104: the closing offsets of a finished path may be +infinity
 unfoldable pub pathFinite : PathTpc → Columns → Bool
 unfolding allFinite
 pathFinite p c =
@@ -37,13 +36,13 @@ trainFinite train =
     allFinite (lengthOf train ∷ topSpeed train ∷ towedMass train ∷ massPerBrake train ∷ curve0 train ∷ curve1 train ∷ curve2 train ∷ [])
     && (Ieee.lt +0 (lengthOf train) && not (Ieee.lt (topSpeed train) +0))
 
--- ---- question 2: "Is the path sound?"
+-- ---- question 2 (R105): the path is sound
 
--- "at least one of each record but power limits"
+-- R105: one of each record but power limits
 unfoldable pub oneOfEach : PathTpc → Bool
 oneOfEach p = leb 1 (p .«link_count») && (leb 1 (p .«grade_count») && (leb 1 (p .«curve_count») && leb 1 (p .«speed_count»)))
 
--- "counts within the columns and their bounds"
+-- R105: each count within its bound (R12)
 unfoldable pub withinBounds : PathTpc → Columns → Bool
 withinBounds p c =
     fitsLinks (p .«link_count») c
@@ -59,7 +58,7 @@ unfoldable pub totals : List LinkPoint → LinkPoint
 unfolding total
 totals ps = linkPoint +0 (total gradeCount ps) (total curveCount ps) (total powerCount ps) 0
 
--- "the link points' counts adding up (grades and curves to one less than the records, two less if finished ..)"
+-- R105: counts add up, to one less than the records, two less if finished
 abbrev pub spare : Bool → ℕ
 spare finished = cond finished 2 1
 
@@ -72,20 +71,20 @@ unfoldable pub countsAddUp : Path → Bool
 unfolding addUp totals recordOf
 countsAddUp path = addUp (recordOf path) (totals (path .links))
 
--- ".. when both closing offsets are +infinity"
+-- R105: a finished path has both closing offsets at +infinity
 abbrev pub closes : List PathResCoeff → Bool
 closes gs = Ieee.eq (standsAt (lastCoeff gs)) +∞
 
 unfoldable pub closedAtInfinity : Path → Bool
 closedAtInfinity path = not (path .finished) || (closes (path .grades) && closes (path .curves))
 
--- "the end point's are 0"
+-- R105: the end point's counts are 0
 unfoldable pub endCountsZero : List LinkPoint → Bool
 endCountsZero ps =
     let p = endPoint ps in
     eqb (gradeCount p) 0 && (eqb (curveCount p) 0 && eqb (powerCount p) 0)
 
--- "link offsets rising strictly"; o is the offset before these
+-- R105: link offsets rise strictly; o is the offset before these
 unfoldable pub riseFrom : Float → List LinkPoint → Bool
 riseFrom o [] = true
 riseFrom o (p ∷ ps) = Ieee.lt o (offsetOf p) && riseFrom (offsetOf p) ps
@@ -95,7 +94,7 @@ unfolding riseFrom
 offsetsRise [] = true
 offsetsRise (p ∷ ps) = riseFrom (offsetOf p) ps
 
--- "no link point's number 0 (a path without links has its one 0), the end point's number the last link's"
+-- R105: a lone link point has number 0; of several none has, and the end point has the last link's
 abbrev pub numbered : LinkPoint → Bool
 numbered p = not (eqb (numberOf p) 0)
 
@@ -114,7 +113,7 @@ unfoldable pub linksSound : List LinkPoint → Bool
 unfolding endCountsZero offsetsRise numbersReal
 linksSound ps = endCountsZero ps && (offsetsRise ps && numbersReal ps)
 
--- "speed points sorted from the first link point's offset"; o is the offset before these
+-- R105: speed points begin at the first link point's offset and never fall; o is the offset before these
 unfoldable pub neverFall : Float → List Point → Bool
 neverFall o [] = true
 neverFall o (p ∷ ps) = Ieee.le o (p .offset) && neverFall (p .offset) ps
@@ -131,7 +130,8 @@ standsThere gs at o = Ieee.eq (offsetAt gs at) o
 abbrev pub countOf : Bool → LinkPoint → ℕ
 countOf curves p = cond curves (curveCount p) (gradeCount p)
 
--- "each link point's first grade and curve at its offset": `count` is how many records a link point has, and `at` the first record of the next one
+-- R105: each link point's first grade and curve stand at its offset; `count` is how many records a link point has, and `at` the first record of the
+-- next one
 unfoldable pub firstAtOffset : (LinkPoint → ℕ) → ℕ → List LinkPoint → List PathResCoeff → Bool
 firstAtOffset count at [] gs = true
 firstAtOffset count at (p ∷ ps) gs = standsThere gs at (offsetOf p) && firstAtOffset count (at + count p) ps gs
@@ -154,7 +154,7 @@ unfoldable pub pathAnswer : Bool → PathTpc → Columns → Answer
 unfolding pathFinite sound inTurn
 pathAnswer also p c = inTurn (ask 1 (pathFinite p c && also) ∷ ask 2 (sound p c) ∷ [])
 
--- ---- question 3: "is the path open?"
+-- ---- question 3 (R106): the path is open
 
 abbrev pub isOpen : PathTpc → Bool
 isOpen p = not (p .«is_finished»)

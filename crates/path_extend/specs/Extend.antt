@@ -1,4 +1,4 @@
--- `extend`: links are joined to a path's end. Document 01, path_tpc.rs, and question 9. Definitions only.
+-- `extend`, R38 to R49: links are joined to a path's end, and question 9. path_tpc.rs. Definitions only.
 use Prim.Native.Nat.{ℕ, _+_, _-_, _*_}
 use mathlib.Core.Bool.{Bool, _&&_, cond}
 use mathlib.Core.List.{List, [], _∷_}
@@ -20,7 +20,7 @@ use Rattle.path_join.specs.Listed.{gradesIn, curvesIn, powersIn, sumOf}
 use Rattle.path_join.specs.Joined.{joinAll, started}
 use Rattle.path_extend.specs.Sums.{frontOf, sumsFrom}
 
--- question 9: "Do the records fit? Speed points need the present count plus two for each limit laid."
+-- question 9 (R112): speed points need the present count and two for each limit laid
 unfoldable pub recordsFit : TrainParams → LinkTable → List ℕ → PathTpc → Columns → Bool
 unfolding sumOf countAt numbersOf
 recordsFit train t ns p c =

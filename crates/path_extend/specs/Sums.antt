@@ -44,7 +44,7 @@ unfolding stretches offsetAfter netAfter numbersOf upFrom
 frontAfter train t at n =
     front (endAt t at n) (offsetAfter (at .grade .0) (gradesAt train t at n)) (netAfter (at .«grade_net» .0) (gradesAt train t at n)) (netAfter (at .«curve_net» .0) (curvesAt train t at n))
 
--- "Are all sums, products and quotients that the call makes finite, and for `extend` each link's end beyond its beginning?"
+-- question 8 (R111): every result is finite, and the link's end lies beyond its beginning
 unfoldable pub sumsFinite : TrainParams → LinkTable → Front → ℕ → Bool
 unfolding stretches every finiteAt numbersOf upFrom
 sumsFinite train t at n =

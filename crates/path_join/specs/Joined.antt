@@ -1,4 +1,4 @@
--- Links joined to a path's end: document 01, path_tpc.rs (`extend`). Definitions only.
+-- Links joined to a path's end, R38 to R47: path_tpc.rs (`extend`). Definitions only.
 use Prim.Native.Nat.{ℕ, _-_}
 use mathlib.Core.Bool.{Bool, true, false, cond}
 use lib.Dec.{eqb}
@@ -39,7 +39,7 @@ unfoldable pub joinPowers : List ℕ → List Float → List ℕ → Float → L
 unfolding numbersOf upFrom
 joinPowers links pool districts base ls n = ls ++ map (placedPower base) (powersAt links pool districts n)
 
--- "Base is the last link point's offset." For grades, curves and power limits it is the last grade's, as in the Rust.
+-- R39: base is the end point's offset, and for grades, curves and power limits the last grade's
 unfoldable pub join : TrainParams → LinkTable → Path → ℕ → Path
 unfolding joinPoint joinRecords joinPowers layAll layingAt
 join train t path n =
@@ -60,7 +60,7 @@ unfolding join
 joinAll train t path [] = path
 joinAll train t path (n ∷ ns) = joinAll train t (join train t path n) ns
 
--- "If the path has one grade record when the call begins, the first listed link's first elevation, where it has any, becomes the starting net value."
+-- R43: with one grade as the call begins, the first listed link's first elevation, where it has any, is the starting net value
 abbrev pub firstValue : Float → List Sample → Float
 firstValue net [] = net
 firstValue net (s ∷ ss) = s .value

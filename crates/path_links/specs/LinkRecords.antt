@@ -1,5 +1,4 @@
--- The grade or curve records of a link: difference 5, "the grade or curve records of the k-th link (k from 0; as many as its count), handed back as
--- that part of the caller's column; refused with 10 past the last link". Definitions only.
+-- The grade or curve records of a link, R58 and R82: the part of the caller's column that link k counts. Definitions only.
 use Prim.Native.Nat.{ℕ, _+_, _*_}
 use mathlib.Core.Bool.{Bool, true, false, cond}
 use mathlib.Core.List.{List, [], _∷_}

@@ -1,4 +1,4 @@
--- `reindex`: document 01, path_tpc.rs. Definitions only.
+-- `reindex`, R57: path_tpc.rs. Definitions only.
 use Prim.Native.Nat.{ℕ}
 use mathlib.Core.Bool.{Bool, true, not, _&&_}
 use mathlib.Core.List.{List, [], _∷_, map}
@@ -16,14 +16,14 @@ use Rattle.path.specs.Sound.{pathAnswer}
 abbrev pub newNumber : List ℕ → ℕ → ℕ
 newNumber new n = getD new n 0
 
--- question 4: "For a reindexing the table is the list of new numbers, and the new number found there must not be 0."
+-- question 4 (R107): the list of new numbers reaches to n, and its number is not 0
 unfoldable pub renumbers : List ℕ → ℕ → Bool
 renumbers new n = ltb n (length new) && not (eqb (newNumber new n) 0)
 
 abbrev pub withNumber : ℕ → LinkPoint → LinkPoint
 withNumber n p = linkPoint (offsetOf p) (gradeCount p) (curveCount p) (powerCount p) n
 
--- "`reindex` gives the end point the last link's number": `last` is the new number of the link before these points
+-- R57: the end point gets the last link's number; `last` is the new number of the link before these points
 unfoldable pub renumberedFrom : ℕ → List ℕ → LinkPoint → List LinkPoint → List LinkPoint
 renumberedFrom last new p [] = withNumber last p ∷ []
 renumberedFrom last new p (q ∷ qs) = withNumber (newNumber new (numberOf p)) p ∷ renumberedFrom (newNumber new (numberOf p)) new q qs

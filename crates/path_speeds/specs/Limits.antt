@@ -1,4 +1,4 @@
--- The limits that a link lays: document 01, path_tpc.rs (`add_speeds`). Definitions only.
+-- The limits that a link lays, R40 and R41: path_tpc.rs (`add_speeds`). Definitions only.
 use Prim.Native.Nat.{ℕ}
 use mathlib.Core.Bool.{Bool, true, not, _&&_, _||_, cond}
 use mathlib.Core.List.{List, [], _∷_, map}
@@ -41,15 +41,15 @@ fewConditions (Found s) = leb (s .«params_count») 64
 
 -- ---- where its limits are laid
 
--- "tail is 0 for a head-end set, else the train's length"
+-- R41: the tail is 0 for a head-end set, else the train's length
 abbrev pub tailOf : Float → SpeedSet → Float
 tailOf length s = cond (eqb (s .«is_head_end») 1) +0 length
 
--- "laid from start + base to (end + base) + tail"
+-- R41: from start + base to (end + base) + tail
 abbrev pub placed : Float → Float → Limit → Limit
 placed base tail l = record { start = l .start ⊕ base; end = (l .end ⊕ base) ⊕ tail; value = l .value }
 
--- "a limit below the top speed"
+-- R40: a limit below the top speed
 abbrev pub lowers : Float → Limit → Bool
 lowers top l = Ieee.lt (l .value) top
 

@@ -1,4 +1,4 @@
--- `recalc_speeds`: "lays only the limits of links still present". Document 01, path_tpc.rs. Definitions only.
+-- `recalc_speeds`, R55 and R56: the limits of the links still present, laid anew. path_tpc.rs. Definitions only.
 use Prim.Native.Nat.{ℕ, _+_, _*_, _/_}
 use lib.ListN.{length}
 use mathlib.Core.List.{List, [], _∷_, map}

@@ -1,4 +1,4 @@
--- Power limits: "base is added to both offsets". Document 01, path_tpc.rs. Definitions only.
+-- Power limits, R47: base is added to both offsets. path_tpc.rs. Definitions only.
 use Prim.Native.Nat.{ℕ}
 use mathlib.Core.Path.{_≡_}
 use mathlib.Core.Bool.{Bool, _&&_}

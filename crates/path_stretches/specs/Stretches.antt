@@ -1,4 +1,4 @@
--- Grades and curves: what each neighbouring pair of elevations or headings adds to the records. Document 01, path_tpc.rs. Definitions only.
+-- Grades and curves, R42 to R46: what each neighbouring pair of elevations or headings adds to the records. path_tpc.rs. Definitions only.
 use Prim.Native.Nat.{ℕ, _-_}
 use mathlib.Core.Bool.{Bool, true, false, _&&_, cond}
 use mathlib.Core.List.{List, [], _∷_, _++_}
@@ -32,7 +32,7 @@ stretchOf coefficient offset net finite =
 
 -- ---- grades
 
--- "one record per neighbouring pair of elevations; coefficient is rise over run, the net value is (previous + current elevation) − prior elevation"
+-- R42: one record for each neighbouring pair of elevations
 unfoldable pub gradeStretch : Float → Float → Sample → Sample → Stretch
 unfolding allFinite
 gradeStretch base net prior current =
@@ -70,7 +70,7 @@ unfoldable pub curveWork : Float → Float → Float → Float → Worked
 unfolding allFinite
 curveWork c0 c1 c2 curvature = cond (Ieee.lt curvature oneDegreePer100ft) (gentle c0 curvature) (sharp c0 c1 c2 curvature)
 
--- "curvature is the size of −REV/2 + ((heading difference + REV/2) % REV), over the run; % keeps the sign of its left side"
+-- R45: the turn between two headings, by a remainder that keeps the sign of its left side, over the run
 unfoldable pub bendOf : Float → Float
 bendOf turn = Ieee.neg halfRev ⊕ Ieee.rem binary64 (turn ⊕ halfRev) rev
 
@@ -107,7 +107,7 @@ unfoldable pub stretchesFrom : (Float → Sample → Sample → Stretch) → Flo
 stretchesFrom step net prior [] = []
 stretchesFrom step net prior (current ∷ rest) = step net prior current ∷ stretchesFrom step (step net prior current .net .0) current rest
 
--- "No elevations (or headings): one flat record."
+-- R44: without elevations or headings one flat record
 abbrev pub flatStretch : Float → Float → Float → Stretch
 flatStretch base net length =
     record { keeps = true; coefficient = record { 0 = +0 }; offset = record { 0 = base ⊕ length }; net = record { 0 = net }; finite = finite (base ⊕ length) }

@@ -1,4 +1,4 @@
--- `clear`: document 01, path_tpc.rs. Definitions only.
+-- `clear`, R50 to R53: path_tpc.rs. Definitions only.
 use Prim.Native.Nat.{ℕ, zero, suc}
 use mathlib.Core.Bool.{Bool, _&&_, cond}
 use mathlib.Core.List.{List, [], _∷_}
@@ -20,7 +20,7 @@ unfoldable pub countBefore : Float → List LinkPoint → ℕ
 countBefore x [] = 0
 countBefore x (p ∷ ps) = cond (Ieee.lt (offsetOf p) x) (suc (countBefore x ps)) 0
 
--- "the kept beginning is the first link point whose next one is not before the offset asked": so many link points go
+-- R50: so many link points go; the first whose next one is not before x stays
 abbrev pub dropCount : Float → List LinkPoint → ℕ
 dropCount x ps = countBefore x (drop 1 ps)
 
@@ -44,7 +44,7 @@ unfolding withoutLinks
 clearedPath zero path = path
 clearedPath (suc d) path = withoutLinks (suc d) path
 
--- question 10: "`clear` from first to last link point"
+-- question 10 (R113): from the first to the last link point
 abbrev pub inRange : Float → List LinkPoint → Bool
 inRange x ps = Ieee.le (offsetOf (linkPointAt ps 0)) x && Ieee.le x (offsetOf (endPoint ps))
 
@@ -58,7 +58,7 @@ clearAnswer x p c =
     ∷ ask 12 (leb 2 (p .«link_count»))
     ∷ [])
 
--- what `clear` leaves, and "the answer is the dropped counts": those of the links that went, as a link point with offset 0 and number 0
+-- what `clear` leaves, and the dropped counts (R53), as a link point with offset 0 and number 0
 pub record Cleared : Type 0 where
   pub outcome : Outcome
   pub dropped : LinkPoint

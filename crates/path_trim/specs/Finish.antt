@@ -1,4 +1,4 @@
--- `finish`: document 01, path_tpc.rs. Definitions only.
+-- `finish`, R54: path_tpc.rs. Definitions only.
 use Prim.Native.Nat.{_+_}
 use mathlib.Core.Bool.{true, _&&_}
 use mathlib.Core.List.{List, [], _∷_, _++_}
@@ -15,7 +15,7 @@ use Rattle.path.specs.Sound.{pathAnswer, isOpen}
 abbrev pub closingAfter : PathResCoeff → PathResCoeff
 closingAfter last = resCoeff +∞ +0 (netOf last)
 
--- "adds a grade and a curve record at +infinity"
+-- R54: a grade and a curve at +infinity
 abbrev pub closing : List PathResCoeff → List PathResCoeff
 closing gs = gs ++ closingAfter (lastCoeff gs) ∷ []
 

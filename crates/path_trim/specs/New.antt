@@ -1,4 +1,4 @@
--- `new`: document 01, path_tpc.rs. Definitions only.
+-- `new`, R37: path_tpc.rs. Definitions only.
 use Prim.Native.Nat.{ℕ}
 use mathlib.Core.Bool.{false}
 use mathlib.Core.List.{[], _∷_}
@@ -14,7 +14,7 @@ use Rattle.path.specs.Records.{Columns, Path, noLinkPoint}
 use Rattle.path.specs.Answers.{ask, inTurn, Outcome, outcome}
 use Rattle.path.specs.Sound.{trainFinite, withinBounds}
 
--- "one link point, grade and curve record, all zero; speed point (0, top speed)"
+-- R37: one link point, grade and curve, all zero, and the speed point (0, top speed)
 unfoldable pub newPath : TrainParams → Path
 newPath train =
     record {

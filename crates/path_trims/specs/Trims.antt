@@ -1,4 +1,4 @@
--- A list of trims: `clear` at one offset after another, each on the path and the columns as the one before left them, all or nothing. Definitions only.
+-- A list of trims, R76 to R78: `clear` at one offset after another, each on the path and the columns as the one before left them, all or nothing. Definitions only.
 use Prim.Native.Nat.{ℕ, _+_}
 use mathlib.Core.Bool.{true, cond}
 use mathlib.Core.List.{List, [], _∷_}

@@ -29,7 +29,7 @@ fn last_link(n: usize) -> usize
     1024
 }
 
-// A run on a path with columns at document 01's bounds.
+// A run on a path with columns at the bounds of R12.
 fn with_path(
     text: &[u8],
     seen: Seen,

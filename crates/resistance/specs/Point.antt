@@ -1,4 +1,4 @@
--- `Point`: document 01, path_res.rs, "`Point` looks at offset − length × 0.5." Definitions only.
+-- `Point`, R64 to R67: path_res.rs. Definitions only.
 use Prim.Native.Nat.{ℕ, _-_}
 use mathlib.Core.Bool.{Bool, false, _&&_, cond}
 use mathlib.Core.List.{List, [], _∷_}
@@ -39,7 +39,7 @@ searchMiddle dir hint s rs = cond (finite (lengthOf s ⊗ half) && finite (middl
 
 -- ---- in a list that is known to be sound
 
--- "A new one searches Fwd from 0."
+-- R64: a new one searches Fwd from 0
 unfoldable pub newKnown : TrainState → List PathResCoeff → PointAnswer
 unfolding searchMiddle
 newKnown s rs = let m = searchMiddle Fwd 0 s rs in record { answer = m .answer; point = pointOf (m .idx) }
@@ -73,7 +73,7 @@ calcResOf dir p s n c =
     let a = listAnswer (stateFinite s) n c in
     cond (isDone a) (calcResKnown dir p s (coeffs n c)) (refusedRes a p)
 
--- "`fix_cache` subtracts a dropped count"; question 11: "`fix_cache` not below 0"
+-- R67: a dropped count subtracted; question 11 (R114)
 unfoldable pub fixCache : Point → ℕ → PointAnswer
 fixCache p sub =
     let a = ask 11 (leb sub (p .idx)) in

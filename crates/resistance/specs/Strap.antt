@@ -1,4 +1,4 @@
--- `Strap`: document 01, path_res.rs. Definitions only.
+-- `Strap`, R68 to R72: path_res.rs. Definitions only.
 use Prim.Native.Nat.{ℕ, _-_}
 use mathlib.Core.Bool.{Bool, true, false, _&&_, cond}
 use mathlib.Core.List.{List, [], _∷_, _++_}
@@ -58,8 +58,7 @@ unfoldable pub movedFront : Dir → Strap → ℕ → TrainState → List PathRe
 unfolding search
 movedFront dir t back s rs = let front = search dir (frontOf s) (frontIdx t) rs in afterSearch (notMoved t) front (movedTo (front .idx) back false)
 
--- "`Strap` advances the front (Fwd), the back (Bwd) or both (Unk); if the two indices are equal it takes that coefficient, otherwise it updates the other
--- (not for Unk)": the indices are compared before the other one is updated, and not again
+-- R69: the indices are compared before the other end is searched, and not again
 unfoldable pub moved : Dir → Strap → TrainState → List PathResCoeff → Moved
 unfolding search movedBack movedFront
 moved Fwd t s rs =
@@ -82,11 +81,11 @@ frontValue t s rs = resVal (coeffAt rs (frontIdx t)) (frontOf s)
 abbrev pub backValue : Strap → TrainState → List PathResCoeff → Float
 backValue t s rs = resVal (coeffAt rs (backIdx t)) (backOf s)
 
--- the coefficient of the one record that serves both ends, otherwise "(front value − back value) / length"
+-- R70: the coefficient of the one record that serves both ends, otherwise (front value − back value) / length
 unfoldable pub calcResStrap : Bool → Strap → TrainState → List PathResCoeff → Float
 calcResStrap one t s rs = cond one (coefficientOf (coeffAt rs (frontIdx t))) ((frontValue t s rs ⊖ backValue t s rs) ⊘ lengthOf s)
 
--- "Times `weight_static`."
+-- R70: times `weight_static`
 abbrev pub resAt : Bool → Strap → TrainState → List PathResCoeff → Float
 resAt one t s rs = calcResStrap one t s rs ⊗ weightOf s
 
@@ -105,7 +104,7 @@ resSteps one t s rs =
 abbrev pub noStrap : Answer → StrapAnswer
 noStrap a = answered a (strapOf 0 0)
 
--- "a new `Strap` searches Fwd for the back, offset − length, from 0 and for the front from the back's answer, and has 0 and 0 for a single record"
+-- R68: the back searched for from 0, the front from its index; 0 and 0 for a single record
 unfoldable pub newKnown : TrainState → List PathResCoeff → StrapAnswer
 unfolding search
 newKnown s rs =
@@ -140,7 +139,7 @@ calcResOf dir t s n c =
     let a = listAnswer (stateFinite s) n c in
     cond (isDone a) (calcResKnown dir t s (coeffs n c)) (refusedRes a t)
 
--- "`fix_cache` subtracts a dropped count"; question 11: "`fix_cache` not below 0", of both indices before either changes
+-- R72: a dropped count subtracted; question 11 (R114) of both indices before either changes
 unfoldable pub fixCache : Strap → ℕ → StrapAnswer
 fixCache t sub =
     let a = ask 11 (leb sub (backIdx t) && leb sub (frontIdx t)) in

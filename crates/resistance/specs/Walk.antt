@@ -1,4 +1,4 @@
--- A walk of a `Strap`: `calc_res` at count positions, each a step further than the one before, all or nothing. Definitions only.
+-- A walk of a `Strap`, R79 to R81: `calc_res` at count positions, each a step further than the one before, all or nothing. Definitions only.
 use Prim.Native.Nat.{ℕ, zero, suc}
 use mathlib.Core.Bool.{Bool, _&&_, cond}
 use mathlib.Core.List.{List, [], _∷_}

@@ -1,2 +1,2 @@
--- Document 01's rows that are proved: one computed test over the table of ../specs.
+-- The rows that are proved (R135): one computed test over the table of ../specs.
 pub mod Table

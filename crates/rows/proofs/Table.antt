@@ -1,4 +1,4 @@
--- Rows S1 to S8, T1, T2 and L1 to L4 of document 01 hold of the definitions: one test, computed over the whole table.
+-- Rows S1 to S8, T1, T2 and L1 to L4 (R135) hold of the definitions: one test, computed over the whole table.
 use lib.Dec.{T}
 use lib.Ieee as Ieee
 use Rattle.ieee.specs.Speed.{smaller, minSpeed}

@@ -1,4 +1,4 @@
--- Rows S1 to S8, T1, T2 and L1 to L4 of document 01: what each call is given and what it is to leave or answer. Definitions only.
+-- Rows S1 to S8, T1, T2 and L1 to L4, R136 to R145 and R148 to R151: what each call is given and what it is to leave or answer. Definitions only.
 use Prim.Native.Nat.{ℕ}
 use mathlib.Core.List.{List, [], _∷_}
 use lib.IntN.{pos}
@@ -39,7 +39,7 @@ pub data Row : Type 0 where
   clear : Lent → ℕ → LinkPoint → Lent → Row
   find : ℕ → List ℕ → Dir → ℕ → ℕ → Indexed → Row
 
--- "From (0,30),(100,20)"
+-- the points (0,30) and (100,20), from which S4 to S7 start
 unfoldable pub twoPoints : List Point
 unfolding p
 twoPoints = p 0 30 ∷ p 100 20 ∷ []
@@ -48,7 +48,7 @@ twoPoints = p 0 30 ∷ p 100 20 ∷ []
 unfoldable pub flats : List ℕ
 flats = 0 ∷ 0 ∷ 0 ∷ 100 ∷ 0 ∷ 0 ∷ 250 ∷ 0 ∷ 0 ∷ []
 
--- "Link points 0, 100, 250": links 1 and 2, each with one grade and one curve; and k speed points
+-- link points 0, 100 and 250: links 1 and 2, each with one grade and one curve; and k speed points
 unfoldable pub both : ℕ → List ℕ → Lent
 unfolding flats
 both k speeds =

@@ -1,4 +1,4 @@
-// Document 01's rows, run through the code and printed as it answers them.
+// The rows (R136 to R153), run through the code and printed as it answers them.
 use column::Two;
 use libc::STDOUT_FILENO;
 use lookup::calc_idx::calc_idx;

@@ -1,4 +1,4 @@
--- What `clear` leaves of the speed points, once X is the path's kept beginning: document 01, rule 1 of the differences. Definitions only.
+-- What `clear` leaves of the speed points, once X is the path's kept beginning, R52. Definitions only.
 use Prim.Native.Nat.{ℕ, _-_}
 use mathlib.Core.Bool.{Bool, false, cond}
 use mathlib.Core.List.{List, [], _∷_}
@@ -18,7 +18,7 @@ abbrev pub moveTo : Float → List Point → List Point
 moveTo X [] = []
 moveTo X (p ∷ ps) = point X (p .speed) ∷ ps
 
--- "If a speed point is at X, as the Rust": the first at X stays. "If none is, the last point before X is kept": the index of that point.
+-- R52: with a point at X the first at X stays, otherwise the last before X: the index of that point
 -- Where every point lies after X, which no path has, the first stays.
 unfoldable pub clearFrom : List Point → Float → ℕ
 unfolding firstFrom

@@ -1,4 +1,4 @@
--- What laying a speed limit on points gives: document 01, speed_point.rs, `insert_speed`. Total on every list of points. Definitions only.
+-- What laying a speed limit on points gives, R20 to R23: speed_point.rs, `insert_speed`. Total on every list of points. Definitions only.
 use Prim.Native.Nat.{ℕ, zero, suc, _-_}
 use mathlib.Core.Bool.{Bool, cond, _&&_}
 use mathlib.Core.List.{List, [], _∷_, _++_}
@@ -66,7 +66,7 @@ layEnd e v i j ps = cond (ends e v j ps) (merge v (suc j - i) i (insertAt (suc j
 abbrev pub starts : Float → Float → ℕ → List Point → Bool
 starts s v i ps = Ieee.lt s (offsetAt ps i) && Ieee.ne (speedAt ps (i - 1)) (minSpeed (speedAt ps (i - 1)) v)
 
--- "There a limit strictly inside one stretch isn't released at e": point j is then the one that goes in here, and the limit no longer changes its speed.
+-- R23: strictly between two points a limit is not released; point j is then the one that goes in here, and the limit no longer changes its speed
 unfoldable pub layStart : Float → Float → Float → ℕ → ℕ → List Point → List Point
 unfolding layEnd
 layStart s e v i j ps =
@@ -76,7 +76,7 @@ unfoldable pub layLimit : Float → Float → Float → List Point → List Poin
 unfolding layStart firstFrom lastFrom
 layLimit s e v ps = layStart s e v (firstFrom s ps) (lastFrom e (length ps - 1) ps) ps
 
--- "Last point at or before s": the first rule; otherwise the second
+-- R21 where the last point is not after s, otherwise R22
 unfoldable pub insertSpeed : List Point → Float → Float → Float → List Point
 unfolding appendLimit layLimit
 insertSpeed ps s e v = cond (Ieee.le (offsetAt ps (length ps - 1)) s) (appendLimit s e v ps) (layLimit s e v ps)

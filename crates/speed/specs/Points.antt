@@ -1,4 +1,4 @@
--- Speed points: document 01, "Points are (offset, speed)". Definitions only.
+-- Speed points, (offset, speed): R9. Definitions only.
 use Prim.Native.Nat.{ℕ, _-_}
 use mathlib.Core.Bool.{Bool, _&&_}
 use mathlib.Core.List.{List}

@@ -1,4 +1,4 @@
-// The drop of the points before a new beginning: rule 1 of document 01's differences.
+// The drop of the points before a new beginning, R52.
 use crate::speed_point::first_from;
 use crate::speed_point::offset_at;
 use crate::speed_point::set_offset;

@@ -1,4 +1,4 @@
--- `set_link_and_offset`: document 01, train_state.rs. Definitions only.
+-- `set_link_and_offset`, R74 and R75: train_state.rs. Definitions only.
 use Prim.Native.Nat.{_-_}
 use mathlib.Core.Bool.{Bool, _&&_, cond}
 use mathlib.Core.List.{List, [], _∷_}
@@ -18,7 +18,7 @@ use Rattle.train.specs.declared.train_state.TrainState.{TrainState}
 use Rattle.train.specs.declared.locate.Located.{Located}
 use Rattle.train.specs.Position.{frontOf, backOf, stateFinite}
 
--- "The last link point at or before" x
+-- R74: the last link point not after x
 unfoldable pub pointBehind : Float → List LinkPoint → LinkPoint
 pointBehind x ps = linkPointAt ps (lastNotAfter (λ i. offsetOf (linkPointAt ps i)) x (length ps - 1))
 
@@ -26,7 +26,7 @@ pointBehind x ps = linkPointAt ps (lastNotAfter (λ i. offsetOf (linkPointAt ps 
 abbrev pub offsetInLink : TrainState → List LinkPoint → Float
 offsetInLink s ps = frontOf s ⊖ offsetOf (pointBehind (frontOf s) ps)
 
--- question 10: "a position's front and back not before the first link point"
+-- question 10 (R113): front and back not before the first link point
 abbrev pub notBeforePath : TrainState → List LinkPoint → Bool
 notBeforePath s ps = Ieee.le (offsetOf (linkPointAt ps 0)) (frontOf s) && Ieee.le (offsetOf (linkPointAt ps 0)) (backOf s)
 

@@ -1,4 +1,4 @@
--- The position of a train: document 01, train_state.rs, and question 1 of it. Definitions only.
+-- The position of a train, R73: train_state.rs, and question 1 of it. Definitions only.
 use mathlib.Core.Bool.{Bool, _&&_}
 use mathlib.Core.List.{[], _∷_}
 use lib.Ieee as Ieee
@@ -23,7 +23,7 @@ weightOf s = s .«weight_static» .0
 abbrev pub inLinkOf : TrainState → Float
 inLinkOf s = s .«offset_in_link» .0
 
--- question 1: "Are the numbers of position finite, the length in position above 0?"
+-- question 1 (R104): every number finite, the length above 0
 unfoldable pub stateFinite : TrainState → Bool
 unfolding allFinite
 stateFinite s = allFinite (frontOf s ∷ backOf s ∷ lengthOf s ∷ weightOf s ∷ inLinkOf s ∷ []) && Ieee.lt +0 (lengthOf s)

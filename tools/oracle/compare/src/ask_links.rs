@@ -1,4 +1,4 @@
-//! Document 01's questions 4 to 9 of listed links, stated independently of the port's code.
+//! Questions 4 to 9 of listed links (R107 to R112), stated independently of the port's code.
 use crate::ask_path::Asked;
 use crate::columns::{counts, Cols};
 use crate::table::{Entry, Lk, Set};

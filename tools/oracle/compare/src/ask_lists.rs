@@ -1,4 +1,4 @@
-//! Document 01's questions of the calls on a list searched alone, stated independently of the port's code.
+//! The questions of the calls on a list searched alone (R104 to R115), stated independently of the port's code.
 use crate::ask_path::position_fine;
 use crate::list_calls::{List, ListCall};
 use mochaspit::sys::{Strap, TrainState};
@@ -154,7 +154,7 @@ pub fn known(l: &List, s: &TrainState) -> bool {
     sound(l, position_fine(s)).is_ok()
 }
 
-/// The answer that document 01 asks of a call on a list.
+/// The answer that the rules ask of a call on a list.
 pub fn ask(call: &ListCall, l: &List) -> (u32, usize) {
     (asked(call, l).err().unwrap_or(0), 0)
 }

@@ -1,4 +1,4 @@
-//! Document 01's questions of the path calls, stated over the lent columns and independently of the port's code.
+//! The questions of the path calls (R104 to R115), stated over the lent columns and independently of the port's code.
 use crate::ask_links;
 use crate::calls::Call;
 use crate::columns::{counts, Cols};
@@ -106,7 +106,7 @@ fn locate(s: &TrainState, p: &PathTpc, c: &Cols) -> Option<Asked> {
     no(10, !before).or_else(|| no(8, (s.offset - behind.unwrap()).is_finite()))
 }
 
-/// The answer that document 01 asks of a call on a path.
+/// The answer that the rules ask of a call on a path.
 pub fn ask(call: &Call, p: &PathTpc, c: &Cols, t: &Train, table: &[Entry]) -> Asked {
     if let Call::New = call {
         let room = c.room();

@@ -7,7 +7,7 @@ use crate::table::{Flat, Lk, Set};
 use altrios_core::track::LinkIdx;
 use mochaspit::sys::{PathTpc, Train};
 
-/// Entries of columns that hold document 01's bounds: 1,025 link points, 16,384 grades and curves, 4,096 speed points, 1,024 power limits.
+/// Entries of columns that hold the bounds of R12: 1,025 link points, 16,384 grades and curves, 4,096 speed points, 1,024 power limits.
 pub const FULL: [usize; 7] = [1025, 4 * 1025, 3 * 16384, 3 * 16384, 2 * 4096, 3 * 1024, 1024];
 /// Length of each link of a plan.
 pub const LINK: f64 = 100.0;

@@ -98,7 +98,7 @@ pub struct State {
     pub original: altrios_core::track::PathTpc,
 }
 
-/// The speed points that rule 1 of document 01's differences gives where none is at the kept beginning of a trim.
+/// The speed points that R52 gives where none is at the kept beginning of a trim.
 pub fn moved_speeds(x: f64, p: &PathTpc, c: &Cols) -> Option<Vec<f64>> {
     let links = &c.offsets[..p.link_count];
     let d = links.windows(2).position(|w| w[1] >= x)?;

@@ -5,7 +5,7 @@ use mochaspit::sys::PathTpc;
 /// Entries of one record in each column.
 pub const WIDTHS: [usize; 7] = [1, 4, 3, 3, 2, 3, 1];
 pub const NAMES: [&str; 7] = ["offsets", "numbers", "grades", "curves", "speeds", "powers", "districts"];
-/// Document 01's bounds: link points, grades, curves, speed points, power limits.
+/// The bounds of R12: link points, grades, curves, speed points, power limits.
 pub const BOUNDS: [usize; 5] = [1025, 16384, 16384, 4096, 1024];
 
 #[derive(Clone, Debug, Default)]

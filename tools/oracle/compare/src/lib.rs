@@ -1,4 +1,4 @@
-//! The original and the port side by side: inputs, both kinds of calls, document 01's questions on their own, and the scenarios.
+//! The original and the port side by side: inputs, both kinds of calls, the questions on their own, and the scenarios.
 pub mod ask_links;
 pub mod ask_lists;
 pub mod ask_path;
