@@ -113,7 +113,7 @@ pub fn moved_speeds(x: f64, p: &PathTpc, c: &Cols) -> Option<Vec<f64>> {
     Some(v)
 }
 
-/// The original's side of a call: what it answers, and the path that it leaves. Under difference 1 it is handed the points of rule 1.
+/// The original's side of a call: what it answers, and the path that it leaves. Under R174 it is handed the points of R52.
 fn original_side(
     run: &mut Run,
     call: &Call,

@@ -18,7 +18,7 @@ pub struct Tally {
     pub numbers: BTreeMap<(&'static str, u32), u64>,
     /// by call: the original done, an error, a panic
     pub outcomes: BTreeMap<&'static str, [u64; 3]>,
-    /// trims under difference 1, and how many of these panic in the original
+    /// trims under R174, and how many of these panic in the original
     pub moved: u64,
     pub moved_panics: u64,
     /// searches with the largest hint, which the original counts on from 0

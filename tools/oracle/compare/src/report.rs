@@ -81,7 +81,7 @@ pub fn calls(t: &Tally) {
     }
     println!("scenarios {}, calls {}, column entries and words compared {}", t.scenarios, t.calls, t.entries);
     println!("longest path: {} link points, {} grades, {} speed points", t.most_links, t.most_grades, t.most_speeds);
-    println!("trims under difference 1: {} (the original panics in {})", t.moved, t.moved_panics);
+    println!("trims under R174: {} (the original panics in {})", t.moved, t.moved_panics);
     println!("searches from the largest index, refused with 11, where the original's index wraps: {}", t.wrapped);
 }
 
