@@ -22,7 +22,6 @@ use Rattle.path_extend.specs.Sums.{frontOf, sumsFrom}
 
 -- question 9 (R112): speed points need the present count and two for each limit laid
 unfoldable pub recordsFit : TrainParams → LinkTable → List ℕ → PathTpc → Columns → Bool
-unfolding sumOf countAt numbersOf
 recordsFit train t ns p c =
     fitsLinks (p .«link_count» + length ns) c
     && (fitsGrades (p .«grade_count» + sumOf (gradesIn (t .links)) ns) c
@@ -32,12 +31,11 @@ recordsFit train t ns p c =
 
 -- question 5: the first listed link follows the path's last one, where the path has a link
 unfoldable pub followed : List ℕ → List LinkPoint → List ℕ → Judged
-unfolding question5
 followed links ps ns = question5 links (leb 2 (length ps)) (cond (leb 2 (length ps)) (numberOf (linkPointAt ps (length ps - 2))) 0) ns
 
 -- questions 8 and 9
 unfoldable pub sumsAnswer : TrainParams → LinkTable → List ℕ → PathTpc → Columns → Answer
-unfolding sumsFrom frontOf started recordsFit inTurn pathOf
+unfolding sumsFrom frontOf recordsFit
 sumsAnswer train t ns p c =
     inTurn (
     askEach 8 (firstNo (sumsFrom train t (frontOf (started t (pathOf p c) ns)) ns))
@@ -45,7 +43,7 @@ sumsAnswer train t ns p c =
     ∷ [])
 
 unfoldable pub extendAnswer : TrainParams → LinkTable → List ℕ → PathTpc → Columns → Answer
-unfolding pathAnswer trainFinite linksAnswer followed sumsAnswer inTurn pathOf
+unfolding followed sumsAnswer
 extendAnswer train t ns p c =
     inTurn (
     pathAnswer (trainFinite train) p c
@@ -55,5 +53,5 @@ extendAnswer train t ns p c =
     ∷ [])
 
 unfoldable pub extendOf : TrainParams → LinkTable → List ℕ → PathTpc → Columns → Outcome
-unfolding extendAnswer joinAll started pathOf outcome
+unfolding extendAnswer
 extendOf train t ns p c = outcome (extendAnswer train t ns p c) p c (joinAll train t (started t (pathOf p c) ns) ns)

@@ -32,12 +32,10 @@ walked train t at n = record { finite = sumsFinite train t at n; front = frontAf
 
 -- how many grades, curves and power limits the listed links have
 unfoldable pub countsOf : List ℕ → List ℕ → Counts
-unfolding sumOf numbersOf
 countsOf links ns = record { grades = sumOf (gradesIn links) ns; curves = sumOf (curvesIn links) ns; powers = sumOf (powersIn links) ns }
 
 -- where the path stands when the first listed link is joined, read out of the columns
 unfoldable pub startFront : PathTpc → List ℕ → List Float → List ℕ → List Float → List Float → List Float → Front
-unfolding startingNet
 startFront p links elevs ns offsets grades curves =
     let last = recordAt triple grades (p .«grade_count» - 1) in
     front (getD offsets (p .«link_count» - 1) +0) (standsAt last) (startingNet links elevs (p .«grade_count») (netOf last) ns) (netOf (recordAt triple curves (p .«curve_count» - 1)))

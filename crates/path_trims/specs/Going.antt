@@ -17,12 +17,11 @@ use Rattle.path_trims.specs.declared.clear_each.Progress.{Progress}
 
 -- questions 1, 10 and 12 of a trim behind x, where these link points are left
 unfoldable pub trimAnswer : Float → List LinkPoint → Answer
-unfolding inTurn
 trimAnswer x ps = inTurn (ask 1 (finite x) ∷ ask 10 (inRange x ps) ∷ ask 12 (leb 2 (length ps)) ∷ [])
 
 -- how far the trims get where d link points are gone and k trims are done: a refusal's place is its position
 unfoldable pub goingOf : ℕ → ℕ → List Float → List LinkPoint → Progress
-unfolding trimAnswer countBefore
+unfolding trimAnswer
 goingOf d k [] ps = record { gone = d; answer = done }
 goingOf d k (x ∷ xs) ps =
     let answer = trimAnswer x (drop d ps) in
@@ -35,7 +34,7 @@ firstFinite (x ∷ xs) = finite x
 
 -- how far they get on a path: questions 1 and 2 come first
 unfoldable pub progressOf : List Float → PathTpc → Columns → Progress
-unfolding goingOf pathAnswer
+unfolding goingOf
 progressOf xs p c =
     let a = pathAnswer (firstFinite xs) p c in
     cond (isDone a) (goingOf 0 0 xs (linkPoints (p .«link_count») (c .offsets) (c .numbers))) (record { gone = 0; answer = a })

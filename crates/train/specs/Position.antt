@@ -25,5 +25,4 @@ inLinkOf s = s .«offset_in_link» .0
 
 -- question 1 (R104): every number finite, the length above 0
 unfoldable pub stateFinite : TrainState → Bool
-unfolding allFinite
 stateFinite s = allFinite (frontOf s ∷ backOf s ∷ lengthOf s ∷ weightOf s ∷ inLinkOf s ∷ []) && Ieee.lt +0 (lengthOf s)
