@@ -25,7 +25,7 @@ standing s x y =
 
 -- question 1 asks nothing of the two offsets but that they are finite
 pub standing-finite : (s : TrainState) (x y : Float) → stateFinite s ≡ true → finite x ≡ true → finite y ≡ true → stateFinite (standing s x y) ≡ true
-unfolding stateFinite
+unfolding stateFinite allFinite
 standing-finite s x y e f g =
     let rest = allFinite (lengthOf s ∷ weightOf s ∷ inLinkOf s ∷ []) in
     let a = and-both (finite (frontOf s) && (finite (backOf s) && rest)) (Ieee.lt +0 (lengthOf s)) e in
