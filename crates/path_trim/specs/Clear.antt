@@ -26,7 +26,6 @@ dropCount x ps = countBefore x (drop 1 ps)
 
 -- the path without its first d links; its beginning is the offset of link point d
 unfoldable pub withoutLinks : ℕ → Path → Path
-unfolding totals
 withoutLinks d path =
     let dropped = totals (take d (path .links)) in
     record {
@@ -50,7 +49,6 @@ inRange x ps = Ieee.le (offsetOf (linkPointAt ps 0)) x && Ieee.le x (offsetOf (e
 
 -- questions 1, 2, 10 and 12
 unfoldable pub clearAnswer : Float → PathTpc → Columns → Answer
-unfolding pathAnswer inTurn pathOf
 clearAnswer x p c =
     inTurn (
     pathAnswer (finite x) p c
@@ -64,7 +62,7 @@ pub record Cleared : Type 0 where
   pub dropped : LinkPoint
 
 unfoldable pub clearOf : Float → PathTpc → Columns → Cleared
-unfolding clearAnswer clearedPath countBefore totals pathOf outcome
+unfolding clearAnswer clearedPath countBefore
 clearOf x p c =
     let path = pathOf p c in
     let d = dropCount x (path .links) in

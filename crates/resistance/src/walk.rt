@@ -2,7 +2,8 @@
 use crate::listed::list_answer;
 use crate::strap::Strap;
 use crate::strap::StrapRes;
-use crate::strap::calc_res_known;
+use crate::strap::calc_res_strap;
+use crate::strap::moved_by;
 use lookup::lin_search_hint::Dir;
 use path::answer::asked;
 use path::path_tpc::Answer;
@@ -16,7 +17,6 @@ ghost use Prim.Native.Nat.{_<_};
 ghost use lib.Ieee.Scale.{finite};
 ghost use Rattle.train.specs.Position.{stateFinite};
 ghost use Rattle.resistance.specs.Listed.{listAnswer};
-ghost use Rattle.resistance.specs.Strap.{refusedRes};
 ghost use Rattle.resistance.specs.Walk as spec;
 
 // Front and back a step further.
@@ -34,14 +34,14 @@ fn further(s: TrainState, step: Length) -> TrainState
     }
 }
 
-// A walk that is refused, or has no position: the strap as it came, force 0.
-fn unmoved(answer: Answer, strap: Strap) -> StrapRes
-    ensures { λ r. ⌜ r ≡ refusedRes answer strap ⌝ }
+// Where a walk ends, for whatever reason.
+fn ended(answer: Answer, strap: Strap, force: f64) -> StrapRes
+    ensures { λ r. ⌜ r ≡ record { answer = answer; strap = strap; res = record { 0 = force } } ⌝ }
 {
     StrapRes {
         answer,
         strap,
-        res: Force(0.0),
+        res: Force(force),
     }
 }
 
@@ -63,18 +63,24 @@ fn walk_sound(
     let mut s = state;
     let mut left = count - 1;
     loop {
-        let r = calc_res_known(t, col, n, s, dir);
-        let answer = r.answer;
+        let m = moved_by(t, col, n, s, dir);
+        let answer = m.answer;
         if answer.number != 0 {
-            return unmoved(answer, strap);
+            return ended(answer, strap, 0.0);
+        }
+        let after = m.strap;
+        let coeff = calc_res_strap(m.one, after, col, n, s);
+        let res = coeff.0 * s.weight_static.0;
+        if !ieee::is_finite(res) {
+            return ended(asked(8, false), strap, 0.0);
         }
         if left == 0 {
-            return r;
+            return ended(answer, after, res);
         }
-        t = r.strap;
+        t = after;
         s = further(s, step);
         if !(ieee::is_finite(s.offset.0) & ieee::is_finite(s.offset_back.0)) {
-            return unmoved(asked(8, false), strap);
+            return ended(asked(8, false), strap, 0.0);
         }
         left -= 1;
     }
@@ -96,10 +102,10 @@ pub fn walk(
     let finite = state_finite(state) & ieee::is_finite(step.0);
     let first = list_answer(col, n, finite);
     if first.number != 0 {
-        return unmoved(first, strap);
+        return ended(first, strap, 0.0);
     }
     if count == 0 {
-        return unmoved(first, strap);
+        return ended(first, strap, 0.0);
     }
     walk_sound(strap, col, n, state, dir, step, count)
 }

@@ -84,16 +84,31 @@ fn strap_moved(l: &List, p: &Strap, s: &TrainState, dir: u32) -> Done<(Strap, bo
     Ok((Strap { idx_front: f, idx_back: b }, one || (dir == UNK && f == b)))
 }
 
-fn strap_res(l: &List, p: &Strap, s: &TrainState, dir: u32) -> Done<()> {
+fn strap_res(l: &List, p: &Strap, s: &TrainState, dir: u32) -> Done<Strap> {
     let (q, one) = strap_moved(l, p, s, dir)?;
     if one {
-        return finite(&[l.col[3 * q.idx_front + 1] * s.weight_static]);
+        finite(&[l.col[3 * q.idx_front + 1] * s.weight_static])?;
+        return Ok(q);
     }
     let (f, b) = (value(l, q.idx_front, s.offset), value(l, q.idx_back, s.offset_back));
     let d = f[2] - b[2];
     finite(&f)?;
     finite(&b)?;
-    finite(&[d, d / s.length, d / s.length * s.weight_static])
+    finite(&[d, d / s.length, d / s.length * s.weight_static])?;
+    Ok(q)
+}
+
+/// The questions of each position, and between two of them question 8 of the sums.
+fn strap_walk(l: &List, mut p: Strap, mut s: TrainState, dir: u32, by: f64, count: usize) -> Done<()> {
+    for k in 0..count {
+        if k > 0 {
+            s.offset += by;
+            s.offset_back += by;
+            finite(&[s.offset, s.offset_back])?;
+        }
+        p = strap_res(l, &p, &s, dir)?;
+    }
+    Ok(())
 }
 
 fn strap_new(l: &List, s: &TrainState) -> Done<()> {
@@ -128,14 +143,17 @@ fn asked(call: &ListCall, l: &List) -> Done<()> {
             sound(l, position_fine(s) && *dir <= 2)?;
             point_res(l, p.idx, s, *dir)
         }
-        ListAnswer => sound(l, true),
-        StrapNew(s) | StrapNewKnown(s) => {
+        StrapNew(s) => {
             sound(l, position_fine(s))?;
             strap_new(l, s)
         }
-        StrapRes(p, s, dir) | StrapResKnown(p, s, dir) => {
+        StrapRes(p, s, dir) => {
             sound(l, position_fine(s) && *dir <= 2)?;
-            strap_res(l, p, s, *dir)
+            strap_res(l, p, s, *dir).map(|_| ())
+        }
+        StrapWalk(p, s, dir, by, count) => {
+            sound(l, position_fine(s) && by.is_finite() && *dir <= 2)?;
+            strap_walk(l, *p, *s, *dir, *by, *count)
         }
         PointCoeff(p) => accessor(l, p.idx, None),
         PointNet(p, s) => accessor(l, p.idx, Some((s.offset, s))),
@@ -147,11 +165,6 @@ fn asked(call: &ListCall, l: &List) -> Done<()> {
         StrapFix(p, sub) => yes(11, *sub <= p.idx_back && *sub <= p.idx_front),
         PointIdx(_) | StrapIdx(_) => Ok(()),
     }
-}
-
-/// Whether the calls on a known list are made: questions 1 and 2 are answered with yes.
-pub fn known(l: &List, s: &TrainState) -> bool {
-    sound(l, position_fine(s)).is_ok()
 }
 
 /// The answer that the rules ask of a call on a list.

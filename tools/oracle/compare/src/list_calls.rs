@@ -30,10 +30,8 @@ pub enum ListCall {
     StrapNetBack(Strap, TrainState),
     StrapIdx(Strap),
     StrapFix(Strap, usize),
-    /// questions 1 and 2 of the list alone, for the calls behind them
-    ListAnswer,
-    StrapNewKnown(TrainState),
-    StrapResKnown(Strap, TrainState, u32),
+    /// direction, step and how many positions
+    StrapWalk(Strap, TrainState, u32, f64, usize),
 }
 
 use ListCall::*;
@@ -56,9 +54,7 @@ impl ListCall {
             StrapNetBack(..) => "Strap::res_net_back",
             StrapIdx(_) => "Strap::path_tpc_idx_front",
             StrapFix(..) => "Strap::fix_cache",
-            ListAnswer => "list_answer",
-            StrapNewKnown(_) => "Strap::new, known list",
-            StrapResKnown(..) => "Strap::calc_res, known list",
+            StrapWalk(..) => "Strap, a walk",
         }
     }
     fn words(&self) -> &'static [&'static str] {
@@ -67,9 +63,8 @@ impl ListCall {
             PointRes(..) => &["index", "force"],
             PointCoeff(_) | StrapCoeffFront(_) | StrapCoeffBack(_) => &["coefficient"],
             PointNet(..) | StrapNetFront(..) | StrapNetBack(..) => &["net value"],
-            StrapNew(_) | StrapNewKnown(_) | StrapFix(..) => &["front index", "back index"],
-            StrapRes(..) | StrapResKnown(..) => &["front index", "back index", "force"],
-            ListAnswer => &[],
+            StrapNew(_) | StrapFix(..) => &["front index", "back index"],
+            StrapRes(..) | StrapWalk(..) => &["front index", "back index", "force"],
         }
     }
     /// The words after a refusal: the indices as they came, zero for each answer wanted.
@@ -78,10 +73,9 @@ impl ListCall {
         match self {
             PointRes(p, ..) => vec![p.idx as u64, 0],
             PointFix(p, _) => vec![p.idx as u64],
-            StrapRes(p, ..) | StrapResKnown(p, ..) => [both(p), vec![0]].concat(),
+            StrapRes(p, ..) | StrapWalk(p, ..) => [both(p), vec![0]].concat(),
             StrapFix(p, _) => both(p),
-            StrapNew(_) | StrapNewKnown(_) => vec![0, 0],
-            ListAnswer => vec![],
+            StrapNew(_) => vec![0, 0],
             _ => vec![0],
         }
     }
@@ -90,7 +84,7 @@ impl ListCall {
         match self {
             CalcIdx(_, hint, dir) => *hint == usize::MAX && *dir < 2,
             PointRes(p, _, dir) => p.idx == usize::MAX && *dir < 2,
-            StrapRes(p, _, dir) | StrapResKnown(p, _, dir) => (p.idx_front == usize::MAX || p.idx_back == usize::MAX) && *dir < 2,
+            StrapRes(p, _, dir) | StrapWalk(p, _, dir, ..) => (p.idx_front == usize::MAX || p.idx_back == usize::MAX) && *dir < 2,
             _ => false,
         }
     }

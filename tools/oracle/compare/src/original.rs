@@ -273,6 +273,19 @@ fn and(mut v: Vec<u64>, x: f64) -> Vec<u64> {
     v
 }
 
+/// Position by position: the original has no other way.
+fn walk(mut p: path_res::Strap, mut s: sys::TrainState, d: &Dir, by: f64, count: usize, l: &[PathResCoeff]) -> anyhow::Result<Vec<u64>> {
+    let mut force = 0.0;
+    for k in 0..count {
+        if k > 0 {
+            s.offset += by;
+            s.offset_back += by;
+        }
+        force = p.calc_res(l, &state(&s, true), d)?.value;
+    }
+    Ok(and(strap_words(&p), force))
+}
+
 fn on_list(call: &ListCall, l: &[PathResCoeff]) -> anyhow::Result<Vec<u64>> {
     use ListCall::*;
     Ok(match call {
@@ -291,13 +304,13 @@ fn on_list(call: &ListCall, l: &[PathResCoeff]) -> anyhow::Result<Vec<u64>> {
             p.fix_cache(*sub);
             point_words(&p)
         }
-        ListAnswer => vec![],
-        StrapNew(s) | StrapNewKnown(s) => strap_words(&path_res::Strap::new(l, &state(s, true))?),
-        StrapRes(p, s, d) | StrapResKnown(p, s, d) => {
+        StrapNew(s) => strap_words(&path_res::Strap::new(l, &state(s, true))?),
+        StrapRes(p, s, d) => {
             let mut p = strap(p);
             let f = p.calc_res(l, &state(s, true), &dir(*d))?;
             and(strap_words(&p), f.value)
         }
+        StrapWalk(p, s, d, by, count) => walk(strap(p), *s, &dir(*d), *by, *count, l)?,
         StrapCoeffFront(p) => and(vec![], strap(p).res_coeff_front(l).value),
         StrapCoeffBack(p) => and(vec![], strap(p).res_coeff_back(l).value),
         StrapNetFront(p, s) => and(vec![], strap(p).res_net_front(l, &state(s, true))?.value),

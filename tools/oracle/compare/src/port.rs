@@ -70,22 +70,8 @@ pub fn strap_new(col: &[f64], n: usize, state: TrainState) -> StrapAnswer {
 pub fn strap_calc_res(strap: Strap, col: &[f64], n: usize, state: TrainState, dir: u32) -> StrapRes {
     unsafe { mochaspit_strap_calc_res(strap, col.as_ptr(), col.len(), n, state, dir) }
 }
-
-/// Questions 1 and 2 of a list, asked once for the calls on a known list.
-pub fn list_answer(col: &[f64], n: usize) -> Answer {
-    unsafe { mochaspit_list_answer(col.as_ptr(), col.len(), n) }
-}
-/// Of a list that `list_answer` found sound; question 2 alone is asked again.
-pub fn strap_new_known(col: &[f64], n: usize, state: TrainState) -> StrapAnswer {
-    unsafe { mochaspit_strap_new_known(col.as_ptr(), col.len(), n, state) }
-}
-/// The same.
-pub fn strap_calc_res_known(strap: Strap, col: &[f64], n: usize, state: TrainState, dir: u32) -> StrapRes {
-    unsafe { mochaspit_strap_calc_res_known(strap, col.as_ptr(), col.len(), n, state, dir) }
-}
-/// The same over many positions.
-pub fn strap_walk_known(strap: Strap, col: &[f64], n: usize, state: TrainState, dir: u32, step: f64, count: usize) -> Walked {
-    unsafe { mochaspit_strap_walk_known(strap, col.as_ptr(), col.len(), n, state, dir, step, count) }
+pub fn strap_walk(strap: Strap, col: &[f64], n: usize, state: TrainState, dir: u32, step: f64, count: usize) -> StrapRes {
+    unsafe { mochaspit_strap_walk(strap, col.as_ptr(), col.len(), n, state, dir, step, count) }
 }
 
 /// The words of a path's record.
@@ -199,9 +185,7 @@ pub fn list_call(call: &ListCall, l: &List) -> Vec<u64> {
             PointFix(q, sub) => point(mochaspit_point_fix_cache(q, sub)),
             StrapNew(s) => strap(mochaspit_strap_new(p, len, n, s)),
             StrapRes(q, s, dir) => force(mochaspit_strap_calc_res(q, p, len, n, s, dir)),
-            ListAnswer => row(mochaspit_list_answer(p, len, n), &[]),
-            StrapNewKnown(s) => strap(mochaspit_strap_new_known(p, len, n, s)),
-            StrapResKnown(q, s, dir) => force(mochaspit_strap_calc_res_known(q, p, len, n, s, dir)),
+            StrapWalk(q, s, dir, by, count) => force(mochaspit_strap_walk(q, p, len, n, s, dir, by, count)),
             StrapCoeffFront(q) => coeff(mochaspit_strap_res_coeff_front(q, p, len, n)),
             StrapCoeffBack(q) => coeff(mochaspit_strap_res_coeff_back(q, p, len, n)),
             StrapNetFront(q, s) => net(mochaspit_strap_res_net_front(q, p, len, n, s)),

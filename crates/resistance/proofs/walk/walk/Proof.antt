@@ -2,6 +2,7 @@
 use native.Mathlib.Omega.{arith}
 use mathlib.Core.Path.{_∙_}
 use borrow.Author.Needs.{needs}
+use lib.Ieee.{ofBits}
 use Rattle.resistance.proofs.WalkSteps.{walk-refused, walk-passed, walk-none}
 use Rattle.resistance.proofs.walk.walk.Statement.{statement}
 use Rattle.resistance.proofs.walk.walk.Tie as tie
@@ -15,22 +16,24 @@ is-finite-requires c κs = search needs
 list-answer-requires : tie.Need-list-answer-requires
 list-answer-requires c κs = search needs
 
-unmoved-requires : tie.Need-unmoved-requires
-unmoved-requires c κs = search needs
+ended-requires : tie.Need-ended-requires
+ended-requires c κs = search needs
 
 returns : tie.Need-returns
+unfolding ofBits
 returns c =
     let a = c .before .before .before .before .before .before .before .args in
-    c .unmoved .ensures
+    c .ended .ensures
     ∙ walk-refused (a .dir) (a .step .0) (a .strap) (a .state) (a .n) (a .col .now) (c .before .before .before .before .before .state-finite .ensures) (c .before .before .before .before .is-finite .ensures) (c .before .before .before .list-answer .ensures) (a .count) (c .before .if1 .taken)
 
-unmoved-requires-2 : tie.Need-unmoved-requires-2
-unmoved-requires-2 c κs = search needs
+ended-requires-2 : tie.Need-ended-requires-2
+ended-requires-2 c κs = search needs
 
 returns-2 : tie.Need-returns-2
+unfolding ofBits
 returns-2 c =
     let a = c .before .before .before .before .before .before .before .before .args in
-    c .unmoved2 .ensures
+    c .ended2 .ensures
     ∙ walk-none (a .dir) (a .step .0) (a .strap) (a .state) (a .n) (a .col .now) (c .before .before .before .before .before .before .state-finite .ensures) (c .before .before .before .before .before .is-finite .ensures) (c .before .before .before .before .list-answer .ensures) (c .before .before .if1 .left) (a .count) (c .before .if2 .taken)
 
 walk-sound-requires : tie.Need-walk-sound-requires
@@ -50,9 +53,9 @@ walk-spec =
     state-finite-requires
     is-finite-requires
     list-answer-requires
-    unmoved-requires
+    ended-requires
     returns
-    unmoved-requires-2
+    ended-requires-2
     returns-2
     walk-sound-requires
     returns-3)

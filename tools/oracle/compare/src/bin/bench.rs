@@ -200,28 +200,13 @@ fn strap() {
     };
     assert_eq!(theirs(&mut ()).to_bits(), ours(&mut ()).to_bits(), "the forces differ");
     let (a, b) = (best(9, || (), theirs), best(3, || (), ours));
-    line("Strap, 10,000 positions over 16,000 records, public calls", a, b);
+    line("Strap, 10,000 positions over 16,000 records, call by call", a, b);
     let once = best(25, || (), |_| pass(&[&col]));
     beside("one of these calls (right) beside one pass over the column (left)", b / 10000, once);
-    assert_eq!(strap_walk(&col, n, &at).to_bits(), theirs(&mut ()).to_bits(), "the forces differ");
-    line("Strap, the same run, question 1 of the list asked once", a, best(9, || (), |_| strap_walk(&col, n, &at)));
-}
-
-/// The same run with the calls on a list that is known to be sound.
-fn strap_walk(col: &[f64], n: usize, at: &[f64]) -> f64 {
-    assert_eq!(port::list_answer(col, n).number, 0);
-    let mut strap = port::strap_new_known(col, n, position(at[0], 1000.0)).strap;
-    let mut sum = 0.0;
-    for x in at {
-        let a = port::strap_calc_res_known(strap, col, n, position(*x, 1000.0), 1);
-        strap = a.strap;
-        sum += a.res;
-    }
-    sum
 }
 
 /// 10,000 positions of one strap along 16,000 records, as one walk; the original goes position by position, since it has no other way.
-fn strap_walk_in_one() {
+fn strap_walk() {
     let n = 16000;
     let col = records(n);
     let list = original::records(&col, n);
@@ -239,12 +224,14 @@ fn strap_walk_in_one() {
         force
     };
     let ours = |_: &mut ()| {
-        assert_eq!(port::list_answer(&col, n).number, 0);
-        let strap = port::strap_new_known(&col, n, first).strap;
-        port::strap_walk_known(strap, &col, n, first, 1, step, count).res
+        let strap = port::strap_new(&col, n, first).strap;
+        port::strap_walk(strap, &col, n, first, 1, step, count).res
     };
     assert_eq!(theirs(&mut ()).to_bits(), ours(&mut ()).to_bits(), "the forces differ");
-    line("Strap, 10,000 positions as one walk, question 1 asked once", best(25, || (), theirs), best(25, || (), ours));
+    line("Strap, a new one and 10,000 positions as one walk", best(25, || (), theirs), best(25, || (), ours));
+    let strap = port::strap_new(&col, n, first).strap;
+    let alone = best(25, || (), |_| port::strap_walk(strap, &col, n, first, 1, step, count));
+    beside("the walk alone (right) beside one pass over the column (left)", alone, best(25, || (), |_| pass(&[&col])));
 }
 
 /// 1,000 positions on a path of 1,000 links.
@@ -311,7 +298,7 @@ fn main() {
         ("links", link_by_link),
         ("limits", limits),
         ("strap", strap),
-        ("walk", strap_walk_in_one),
+        ("walk", strap_walk),
         ("positions", positions),
         ("growth", growth),
     ];

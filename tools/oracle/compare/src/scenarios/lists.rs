@@ -1,5 +1,5 @@
-//! Lists searched alone: `calc_idx`, `Point` and `Strap` with stored indices, some of them stale.
-use crate::ask_lists::{known, BWD, FWD, UNK};
+//! Lists searched alone: `calc_idx`, `Point`, `Strap` and walks of it with stored indices, some of them stale.
+use crate::ask_lists::{BWD, FWD, UNK};
 use crate::judge::Run;
 use crate::list_calls::{step, List, ListCall};
 use crate::random_train::{offset_among, position};
@@ -94,6 +94,15 @@ fn accessors(r: &mut Rng, p: Point, q: Strap, s: TrainState) -> Vec<ListCall> {
     ]
 }
 
+/// A walk from a position: none, one or many, with steps ahead and back, few of them not finite.
+fn walk(r: &mut Rng, q: Strap, s: TrainState, dir: u32, wild: bool) -> ListCall {
+    let by = r.of(&[0.0, -0.0, 1.0, 10.0, 25.0, 0.1, 100.0]);
+    let by = if (dir == BWD) != r.chance(150) { -by } else { by };
+    let by = if wild && r.chance(300) { r.of(&EXTREME) } else { by };
+    let by = if r.chance(15) { r.of(&NOT_FINITE) } else { by };
+    ListCall::StrapWalk(q, s, dir, by, r.of(&[0, 1, 2, 2, 3, 3, 5, 8, 20, 100]))
+}
+
 /// The finite offsets of a list.
 pub fn at(l: &List) -> Vec<f64> {
     l.col.chunks(3).take(l.n).map(|x| x[0]).filter(|x| x.is_finite()).collect()
@@ -110,6 +119,10 @@ fn along(run: &mut Run, l: &List, wild: bool) {
     }
     if b[0] == 0 {
         q = Strap { idx_front: b[2] as usize, idx_back: b[3] as usize };
+    }
+    for dir in [FWD, UNK, BWD] {
+        let call = walk(&mut run.r, q, s, dir, wild);
+        step(run, &call, l);
     }
     let turn = run.r.to(8);
     for i in 0..8 {
@@ -140,10 +153,7 @@ fn stored(run: &mut Run, l: &List, wild: bool) {
         let (d, e) = (direction(&mut run.r), direction(&mut run.r));
         let mut all = vec![ListCall::PointRes(p, s, d), ListCall::StrapRes(q, s, e), ListCall::PointNew(s), ListCall::StrapNew(s)];
         all.extend(accessors(&mut run.r, p, q, s));
-        all.push(ListCall::ListAnswer);
-        if known(l, &s) {
-            all.extend([ListCall::StrapNewKnown(s), ListCall::StrapResKnown(q, s, e)]);
-        }
+        all.push(walk(&mut run.r, q, s, e, wild));
         for call in &all {
             step(run, call, l);
         }
