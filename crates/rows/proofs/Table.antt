@@ -9,10 +9,13 @@ use Rattle.speed.specs.Clear.{clearPoints}
 use Rattle.lookup.specs.Coeff.{coeffsFinite}
 use Rattle.lookup.specs.Search.{searched, inRange, hintAllowed}
 use Rattle.lookup.specs.CalcIdx.{calcIdx}
+use Rattle.path.specs.Records.{pathOf}
+use Rattle.path.specs.Answers.{inTurn, outcome}
+use Rattle.path.specs.Sound.{pathAnswer, totals}
 use Rattle.path_trim.specs.Clear.{clearOf}
 use Rattle.rows.specs.Rows.{rows}
 use Rattle.rows.specs.Right.{every}
 
 pub table : T (every rows)
-unfolding rows every insertSpeed clearOf clearPoints calcIdx coeffsFinite searched inRange hintAllowed filled column.records column.recordAt minSpeed smaller Ieee.toBits Ieee.ofInt Ieee.lt Ieee.le Ieee.eq Ieee.ne Ieee.neg
+unfolding rows every insertSpeed clearOf clearPoints pathAnswer inTurn pathOf totals outcome calcIdx coeffsFinite searched inRange hintAllowed filled column.records column.recordAt minSpeed smaller Ieee.toBits Ieee.ofInt Ieee.lt Ieee.le Ieee.eq Ieee.ne Ieee.neg
 table = tt
