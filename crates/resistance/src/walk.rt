@@ -45,7 +45,8 @@ fn ended(answer: Answer, strap: Strap, force: f64) -> StrapRes
     }
 }
 
-// The walk where questions 1 and 2 are answered with yes, and there is a position.
+// The walk where questions 1 and 2 are answered with yes, and there is a position. The moved indices are a local of their own: with a
+// copy of both at once the next search waits for it, and the walk takes three times as long.
 fn walk_sound(
     strap: Strap,
     col: &[f64],
