@@ -6,7 +6,7 @@ use mathlib.Core.List.{List, [], _∷_, map}
 use lib.Dec.{eqb}
 use lib.Ieee as Ieee
 use lib.Ieee.{Float, binary64}
-use Rattle.column.specs.Records as column
+use Rattle.column.specs.Records.{flat}
 use Rattle.speed.specs.Points.{Point}
 use Rattle.speed.specs.Column.{pair}
 use Rattle.speed.specs.Insert.{insertSpeed}
@@ -40,8 +40,8 @@ bits xs = map (Ieee.toBits binary64) xs
 
 -- points as numbers
 unfoldable pub pointsTold : List Point → List ℕ
-unfolding bits column.flat
-pointsTold ps = bits (column.flat pair ps)
+unfolding bits
+pointsTold ps = bits (flat pair ps)
 
 -- number, place and index of a search
 unfoldable pub searchTold : Indexed → List ℕ
