@@ -48,7 +48,6 @@ lastEnd ends = getD ends (length ends - 1) nan
 -- "base is the last end; if the link's set applies, its limits enter, base and tail added, and those below the top speed are laid on the points by
 -- `insert_speed`; base + length becomes the next end"
 unfoldable pub enterLink : TrainParams → LinkTable → Book → ℕ → Book
-unfolding enteringAt lowering layAll linkAt
 enterLink train t b n =
     let base = lastEnd (b .ends) in
     let limits = enteringAt train (lengthOf train) (setsOf t) base n in

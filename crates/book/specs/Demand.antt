@@ -31,7 +31,6 @@ use Rattle.book.specs.Claims.{postedAt, PostedRight}
 
 -- what a call on a path and its columns leaves: each is the definition that the call's contract cites
 unfoldable pub callOf : TrainParams → Call → PathTpc → Columns → Outcome
-unfolding extendOf clearOf reindexOf finishOf
 callOf train (extend t ns) p c = extendOf train t ns p c
 callOf train (clear x) p c = clearOf x p c .outcome
 callOf train (reindex new) p c = reindexOf new p c

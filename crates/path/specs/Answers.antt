@@ -36,7 +36,7 @@ inTurn (a ∷ rest) = cond (isDone a) (inTurn rest) a
 
 -- questions 4 to 7 of the links ns; `fifth` is the answer to question 5, which a recalculation does not ask (yes)
 unfoldable pub linksAnswer : LinkTable → TrainType → Judged → List ℕ → Answer
-unfolding question4 question6 question7 inTurn
+unfolding inTurn
 linksAnswer t type fifth ns =
     inTurn (
     askEach 4 (question4 (t .links) (t .lengths) (t .sets) ns)

@@ -30,7 +30,6 @@ use Rattle.path_extend.specs.Sums.{front, frontOf, sumsFrom}
 
 -- question 9: "Do the records fit? Speed points need the present count plus two for each limit laid."
 unfoldable pub recordsFit : TrainParams → LinkTable → List ℕ → PathTpc → Columns → Bool
-unfolding sumOf countAt numbersOf
 recordsFit train t ns p c =
     fitsLinks (p .«link_count» + length ns) c
     && (fitsGrades (p .«grade_count» + sumOf (gradesIn (t .links)) ns) c
@@ -40,12 +39,11 @@ recordsFit train t ns p c =
 
 -- question 5: the first listed link follows the path's last one, where the path has a link
 unfoldable pub followed : List ℕ → List LinkPoint → List ℕ → Judged
-unfolding question5
 followed links ps ns = question5 links (leb 2 (length ps)) (cond (leb 2 (length ps)) (numberOf (linkPointAt ps (length ps - 2))) 0) ns
 
 -- questions 8 and 9
 unfoldable pub sumsAnswer : TrainParams → LinkTable → List ℕ → PathTpc → Columns → Answer
-unfolding sumsFrom frontOf started recordsFit inTurn pathOf
+unfolding sumsFrom frontOf recordsFit
 sumsAnswer train t ns p c =
     inTurn (
     askEach 8 (firstNo (sumsFrom train t (frontOf (started t (pathOf p c) ns)) ns))
@@ -53,7 +51,7 @@ sumsAnswer train t ns p c =
     ∷ [])
 
 unfoldable pub extendAnswer : TrainParams → LinkTable → List ℕ → PathTpc → Columns → Answer
-unfolding pathAnswer trainFinite linksAnswer followed sumsAnswer inTurn pathOf
+unfolding followed sumsAnswer
 extendAnswer train t ns p c =
     inTurn (
     pathAnswer (trainFinite train) p c
@@ -63,19 +61,17 @@ extendAnswer train t ns p c =
     ∷ [])
 
 unfoldable pub extendOf : TrainParams → LinkTable → List ℕ → PathTpc → Columns → Outcome
-unfolding extendAnswer joinAll started pathOf outcome
+unfolding extendAnswer
 extendOf train t ns p c = outcome (extendAnswer train t ns p c) p c (joinAll train t (started t (pathOf p c) ns) ns)
 
 -- ---- as the code has it
 
 -- how many grades, curves and power limits the listed links have
 unfoldable pub countsOf : List ℕ → List ℕ → Counts
-unfolding sumOf numbersOf
 countsOf links ns = record { grades = sumOf (gradesIn links) ns; curves = sumOf (curvesIn links) ns; powers = sumOf (powersIn links) ns }
 
 -- where the path stands when the first listed link is joined, read out of the columns
 unfoldable pub startFront : PathTpc → List ℕ → List Float → List ℕ → List Float → List Float → List Float → Front
-unfolding startingNet
 startFront p links elevs ns offsets grades curves =
     let last = recordAt triple grades (p .«grade_count» - 1) in
     front (getD offsets (p .«link_count» - 1) +0) (standsAt last) (startingNet links elevs (p .«grade_count») (netOf last) ns) (netOf (recordAt triple curves (p .«curve_count» - 1)))

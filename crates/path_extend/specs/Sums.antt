@@ -41,13 +41,11 @@ abbrev pub endAt : LinkTable → Front → ℕ → Float
 endAt t at n = lengthAt (t .lengths) n ⊕ at .link .0
 
 unfoldable pub frontAfter : TrainParams → LinkTable → Front → ℕ → Front
-unfolding stretches offsetAfter netAfter numbersOf upFrom
 frontAfter train t at n =
     front (endAt t at n) (offsetAfter (at .grade .0) (gradesAt train t at n)) (netAfter (at .«grade_net» .0) (gradesAt train t at n)) (netAfter (at .«curve_net» .0) (curvesAt train t at n))
 
 -- "Are all sums, products and quotients that the call makes finite, and for `extend` each link's end beyond its beginning?"
 unfoldable pub sumsFinite : TrainParams → LinkTable → Front → ℕ → Bool
-unfolding stretches every finiteAt numbersOf upFrom
 sumsFinite train t at n =
     finiteAt train (lengthOf train) (setsOf t) (at .link .0) n
     && ((finite (endAt t at n) && Ieee.lt (at .link .0) (endAt t at n))

@@ -26,7 +26,6 @@ use Rattle.path_join.specs.Listed.{Rises, risesOf, lengthAt, elevsAt, sa
 
 -- the end point becomes the link's point, and a new end point follows, with the link's number too
 unfoldable pub joinPoint : List ℕ → List Float → List LinkPoint → ℕ → List LinkPoint
-unfolding numbersOf
 joinPoint links lengths ps n =
     let number = numbersOf links n .«idx_curr» in
     let base = offsetOf (endPoint ps) in
@@ -34,17 +33,15 @@ joinPoint links lengths ps n =
 
 -- its grades or curves, from base on
 unfoldable pub joinRecords : Bool → TrainParams → Rises → List Float → Float → List PathResCoeff → ℕ → List PathResCoeff
-unfolding stretches layStretches numbersOf upFrom
 joinRecords curves train r headings base rs n = layStretches rs (stretches curves train base (netOf (lastCoeff rs)) (lengthAt (r .lengths) n) (samplesAt curves r headings n))
 
 -- its power limits
 unfoldable pub joinPowers : List ℕ → List Float → List ℕ → Float → List PowerLimit → ℕ → List PowerLimit
-unfolding numbersOf upFrom
 joinPowers links pool districts base ls n = ls ++ map (placedPower base) (powersAt links pool districts n)
 
 -- "Base is the last link point's offset." For grades, curves and power limits it is the last grade's, as in the Rust.
 unfoldable pub join : TrainParams → LinkTable → Path → ℕ → Path
-unfolding joinPoint joinRecords joinPowers layAll layingAt
+unfolding joinPoint joinRecords joinPowers
 join train t path n =
     let base = standsAt (lastCoeff (path .grades)) in
     record {
@@ -69,7 +66,6 @@ firstValue net [] = net
 firstValue net (s ∷ ss) = s .value
 
 unfoldable pub startingNet : List ℕ → List Float → ℕ → Float → List ℕ → Float
-unfolding numbersOf upFrom
 startingNet links elevs m net [] = net
 startingNet links elevs m net (n ∷ ns) = cond (eqb m 1) (firstValue net (elevsAt links elevs n)) net
 

@@ -68,5 +68,4 @@ endFrom base length (s ∷ []) = base
 endFrom base length (s ∷ r ∷ ss) = base ⊕ lastOffset (r .offset) ss
 
 unfoldable pub gradeEnd : Rises → Float → ℕ → Float
-unfolding numbersOf upFrom
 gradeEnd r base n = endFrom base (lengthAt (r .lengths) n) (elevsAt (r .links) (r .elevs) n)

@@ -22,12 +22,10 @@ pub record Part : Type 0 where
 
 -- questions 1, 2 and 10: there is a k-th link
 unfoldable pub partAnswer : ℕ → PathTpc → Columns → Answer
-unfolding pathAnswer inTurn
 partAnswer k p c = inTurn (pathAnswer true p c ∷ ask 10 (ltb (k + 1) (p .«link_count»)) ∷ [])
 
 -- where the records of link k lie in their column: three entries to a record, located by the summed counts
 unfoldable pub rangeOf : (LinkPoint → ℕ) → ℕ → List LinkPoint → Range
-unfolding total
 rangeOf count k ps = record { from = 3 * total count (take k ps); len = 3 * count (linkPointAt ps k) }
 
 unfoldable pub partOf : (LinkPoint → ℕ) → ℕ → List LinkPoint → List Float → List Float
@@ -39,16 +37,16 @@ abbrev pub handedBack : Answer → List Float → Part
 handedBack a part = record { answer = a; part = cond (isDone a) part [] }
 
 unfoldable pub linkGradesOf : ℕ → PathTpc → Columns → Part
-unfolding partAnswer partOf pathOf
+unfolding partAnswer partOf
 linkGradesOf k p c = handedBack (partAnswer k p c) (partOf (countOf false) k (pathOf p c .links) (c .grades))
 
 unfoldable pub linkCurvesOf : ℕ → PathTpc → Columns → Part
-unfolding partAnswer partOf pathOf
+unfolding partAnswer partOf
 linkCurvesOf k p c = handedBack (partAnswer k p c) (partOf (countOf true) k (pathOf p c .links) (c .curves))
 
 -- the same as a range of the column of grades or curves; nothing from 0 for a refusal
 unfoldable pub linkRangeOf : Bool → ℕ → PathTpc → Columns → RangeAnswer
-unfolding partAnswer rangeOf pathOf
+unfolding partAnswer rangeOf
 linkRangeOf curves k p c =
     let a = partAnswer k p c in
     record { answer = a; range = cond (isDone a) (rangeOf (countOf curves) k (pathOf p c .links)) (record { from = 0; len = 0 }) }

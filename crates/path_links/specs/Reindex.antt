@@ -51,11 +51,11 @@ reindexedPath new path =
 
 -- questions 1, 2 and 4
 unfoldable pub reindexAnswer : List ℕ → PathTpc → Columns → Answer
-unfolding pathAnswer renumbers inTurn pathOf
+unfolding renumbers
 reindexAnswer new p c = inTurn (pathAnswer true p c ∷ askEach 4 (firstNo (map (renumbers new) (map numberOf (beginnings (pathOf p c .links))))) ∷ [])
 
 unfoldable pub reindexOf : List ℕ → PathTpc → Columns → Outcome
-unfolding reindexAnswer reindexedPath pathOf outcome
+unfolding reindexAnswer reindexedPath
 reindexOf new p c = outcome (reindexAnswer new p c) p c (reindexedPath new (pathOf p c))
 
 -- ---- the same over the four numbers of each point, which is what `reindex` changes

@@ -25,13 +25,12 @@ use Rattle.path.specs.Records.{offsetOf, numberOf}
 
 -- the set, if its conditions hold for the train
 unfoldable pub ifApplies : TrainParams → List ℕ → List Float → SetFound → SetFound
-unfolding every
 ifApplies train codes values Missing = Missing
 ifApplies train codes values (Found s) = cond (applies train (conditionsOf codes values s)) (Found s) Missing
 
 -- of link n
 unfoldable pub applyingSet : TrainParams → List ℕ → List ℕ → List Float → ℕ → SetFound
-unfolding ifApplies setFor setAt
+unfolding ifApplies
 applyingSet train sets codes values n = ifApplies train codes values (setFor (setAt sets n) (train .«train_type»))
 
 -- a set has at most 64 conditions (question 6)
@@ -89,7 +88,6 @@ abbrev pub laidFinite : Float → Float → Float → Limit → Bool
 laidFinite top base tail l = not (lowers top l) || placedFinite base tail l
 
 unfoldable pub limitsFinite : Float → Float → Float → List Float → SetFound → Bool
-unfolding every
 limitsFinite top base length limits Missing = true
 limitsFinite top base length limits (Found s) = every (laidFinite top base (tailOf length s)) (limitsOf limits s)
 
@@ -110,7 +108,6 @@ setsOf t = speedSets (t .sets) (t .codes) (t .values) (t .limits)
 
 -- the set for the train has at most 64 conditions
 unfoldable pub fewAt : TrainParams → SpeedSets → ℕ → Bool
-unfolding setFor setAt
 fewAt train q n = fewConditions (setFor (setAt (q .places) n) (train .«train_type»))
 
 abbrev pub setOf : TrainParams → SpeedSets → ℕ → SetFound

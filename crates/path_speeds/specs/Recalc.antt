@@ -38,7 +38,7 @@ recalcedPath train t path =
 
 -- questions 8 and 9: n is the length of the speed column
 unfoldable pub limitsAnswer : TrainParams → SpeedSets → List LinkPoint → ℕ → Answer
-unfolding finiteAt countAt total inTurn
+unfolding finiteAt countAt
 limitsAnswer train q present n =
     inTurn (
     askEach 8 (firstNo (map (pointFinite train (lengthOf train) q) present))
@@ -47,7 +47,7 @@ limitsAnswer train q present n =
 
 -- questions 1, 2, 4 and 6 to 9
 unfoldable pub recalcAnswer : TrainParams → LinkTable → PathTpc → Columns → Answer
-unfolding pathAnswer trainFinite linksAnswer limitsAnswer inTurn pathOf
+unfolding limitsAnswer
 recalcAnswer train t p c =
     let present = beginnings (pathOf p c .links) in
     inTurn (
@@ -57,5 +57,5 @@ recalcAnswer train t p c =
     ∷ [])
 
 unfoldable pub recalcOf : TrainParams → LinkTable → PathTpc → Columns → Outcome
-unfolding recalcAnswer recalcedPath pathOf outcome
+unfolding recalcAnswer recalcedPath
 recalcOf train t p c = outcome (recalcAnswer train t p c) p c (recalcedPath train t (pathOf p c))

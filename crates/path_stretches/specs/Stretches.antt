@@ -34,7 +34,6 @@ stretchOf coefficient offset net finite =
 
 -- "one record per neighbouring pair of elevations; coefficient is rise over run, the net value is (previous + current elevation) − prior elevation"
 unfoldable pub gradeStretch : Float → Float → Sample → Sample → Stretch
-unfolding allFinite
 gradeStretch base net prior current =
     let rise = current .value ⊖ prior .value in
     let run = current .offset ⊖ prior .offset in
@@ -67,7 +66,6 @@ sharp c0 c1 c2 curvature =
     record { value = record { 0 = ab ⊕ c }; finite = allFinite (over ∷ a ∷ b ∷ ab ∷ q ∷ qq ∷ c ∷ ab ⊕ c ∷ []) }
 
 unfoldable pub curveWork : Float → Float → Float → Float → Worked
-unfolding allFinite
 curveWork c0 c1 c2 curvature = cond (Ieee.lt curvature oneDegreePer100ft) (gentle c0 curvature) (sharp c0 c1 c2 curvature)
 
 -- "curvature is the size of −REV/2 + ((heading difference + REV/2) % REV), over the run; % keeps the sign of its left side"
@@ -79,13 +77,13 @@ curvatureOf turn run = size (bendOf turn) ⊘ run
 
 -- the results on the way to it are finite
 unfoldable pub turnFinite : Float → Float → Bool
-unfolding bendOf allFinite
+unfolding bendOf
 turnFinite turn run =
     let shifted = turn ⊕ halfRev in
     allFinite (run ∷ turn ∷ shifted ∷ Ieee.rem binary64 shifted rev ∷ bendOf turn ∷ curvatureOf turn run ∷ [])
 
 unfoldable pub curveStretch : TrainParams → Float → Float → Sample → Sample → Stretch
-unfolding bendOf turnFinite curveWork allFinite
+unfolding bendOf turnFinite curveWork
 curveStretch train base net prior current =
     let run = current .offset ⊖ prior .offset in
     let turn = current .value ⊖ prior .value in
@@ -139,7 +137,7 @@ abbrev pub isFinite : Stretch → Bool
 isFinite s = s .finite
 
 unfoldable pub reached : Float → Float → List Stretch → Reached
-unfolding every offsetAfter netAfter
+unfolding offsetAfter netAfter
 reached offset net ss = record { finite = every isFinite ss; offset = record { 0 = offsetAfter offset ss }; net = record { 0 = netAfter net ss } }
 
 -- ---- laid on records

@@ -43,7 +43,6 @@ closedRecord p =
     }
 
 unfoldable pub finishAnswer : PathTpc → Columns → Answer
-unfolding pathAnswer inTurn
 finishAnswer p c =
     inTurn (
     pathAnswer true p c
@@ -52,5 +51,5 @@ finishAnswer p c =
     ∷ [])
 
 unfoldable pub finishOf : PathTpc → Columns → Outcome
-unfolding finishAnswer finishedPath pathOf outcome
+unfolding finishAnswer finishedPath
 finishOf p c = outcome (finishAnswer p c) p c (finishedPath (pathOf p c))

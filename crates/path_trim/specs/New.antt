@@ -32,7 +32,6 @@ start = record { «link_count» = 1; «grade_count» = 1; «curve_count» = 1; �
 
 -- questions 1 and 9
 unfoldable pub newAnswer : TrainParams → Columns → Answer
-unfolding trainFinite withinBounds inTurn
 newAnswer train c = inTurn (ask 1 (trainFinite train) ∷ ask 9 (withinBounds start c) ∷ [])
 
 -- a refused `new` has no path
@@ -43,5 +42,5 @@ abbrev pub refusedNew : ℕ → PathAnswer
 refusedNew number = record { answer = record { number = number; place = 0 }; path = noPath }
 
 unfoldable pub newOf : TrainParams → Columns → Outcome
-unfolding newAnswer newPath outcome
+unfolding newAnswer newPath
 newOf train c = outcome (newAnswer train c) noPath c (newPath train)

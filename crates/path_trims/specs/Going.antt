@@ -14,12 +14,11 @@ use Rattle.path_trims.specs.declared.clear_each.Progress.{Progress}
 
 -- questions 1, 10 and 12 of a trim behind x, where these link points are left
 unfoldable pub trimAnswer : Float → List LinkPoint → Answer
-unfolding inTurn
 trimAnswer x ps = inTurn (ask 1 (finite x) ∷ ask 10 (inRange x ps) ∷ ask 12 (leb 2 (length ps)) ∷ [])
 
 -- how far the trims get where d link points are gone and k trims are done
 unfoldable pub goingOf : ℕ → ℕ → List Float → List LinkPoint → Progress
-unfolding trimAnswer countBefore
+unfolding trimAnswer
 goingOf d k [] ps = record { gone = d; count = k; answer = done }
 goingOf d k (x ∷ xs) ps =
     let answer = trimAnswer x (drop d ps) in

@@ -23,7 +23,6 @@ pub record Trimmed : Type 0 where
 
 -- `dropped` and k are what the trims before these dropped, and how many they were; the first refusal ends the list
 unfoldable pub trimsOf : LinkPoint → ℕ → List Float → PathTpc → Columns → Trimmed
-unfolding clearOf
 trimsOf dropped k [] p c = record { outcome = left (record { answer = done; path = p }) c; dropped = dropped; count = k }
 trimsOf dropped k (x ∷ xs) p c =
     let r = clearOf x p c in

@@ -19,7 +19,6 @@ use Rattle.resistance.specs.declared.listed.NetAnswer.{NetAnswer}
 
 -- questions 1 and 2 of a list; `also` is question 1 of the call's other numbers
 unfoldable pub listAnswer : Bool → ℕ → List Float → Answer
-unfolding inTurn
 listAnswer also n c = inTurn (ask 1 (also && coeffsFinite true n c) ∷ ask 2 (listSound n c) ∷ [])
 
 -- ---- one search
@@ -43,14 +42,14 @@ valueSteps g x = (x ⊖ standsAt g) ∷ (coefficientOf g ⊗ (x ⊖ standsAt g))
 
 -- question 11 of a call that reads record i: it is an index
 unfoldable pub resCoeffOf : ℕ → ℕ → List Float → CoeffAnswer
-unfolding listAnswer inTurn
+unfolding listAnswer
 resCoeffOf i n c =
     let a = inTurn (listAnswer true n c ∷ ask 11 (ltb i n) ∷ []) in
     record { answer = a; «res_coeff» = record { 0 = cond (isDone a) (coefficientOf (coeffAt (coeffs n c) i)) +0 } }
 
 -- the value at x by record i: questions 1, 2, 11 and 8
 unfoldable pub resNetOf : ℕ → Float → TrainState → ℕ → List Float → NetAnswer
-unfolding listAnswer inTurn allFinite
+unfolding listAnswer
 resNetOf i x s n c =
     let g = coeffAt (coeffs n c) i in
     let a = inTurn (listAnswer (stateFinite s) n c ∷ ask 11 (ltb i n) ∷ ask 8 (allFinite (valueSteps g x)) ∷ []) in

@@ -53,7 +53,7 @@ abbrev pub refusedRes : Answer → Point → PointRes
 refusedRes a p = record { answer = a; point = p; res = record { 0 = +0 } }
 
 unfoldable pub calcResKnown : Dir → Point → TrainState → List PathResCoeff → PointRes
-unfolding searchMiddle inTurn
+unfolding searchMiddle
 calcResKnown dir p s rs =
     let m = searchMiddle dir (p .idx) s rs in
     let a = inTurn (m .answer ∷ ask 8 (finite (resAt (m .idx) s rs)) ∷ []) in

@@ -120,7 +120,7 @@ refusedRes a t = record { answer = a; strap = t; res = record { 0 = +0 } }
 
 -- the searches, and then question 8
 unfoldable pub calcResKnown : Dir → Strap → TrainState → List PathResCoeff → StrapRes
-unfolding moved resSteps calcResStrap inTurn allFinite
+unfolding moved resSteps calcResStrap
 calcResKnown dir t s rs =
     let m = moved dir t s rs in
     let a = inTurn (m .answer ∷ ask 8 (allFinite (resSteps (m .one) (m .strap) s rs)) ∷ []) in

@@ -26,7 +26,7 @@ fieldBytes text at k = bytesOf text (field text at k)
 
 -- the number that field k is
 unfoldable pub numberAt : List ℕ → ℕ → ℕ → Reading
-unfolding fieldBytes readNumber
+unfolding fieldBytes
 numberAt text at k = readNumber (fieldBytes text at k)
 
 -- a number that is known to be one; 0 otherwise
@@ -40,5 +40,5 @@ wholeOrZero Wholes.Not = 0
 
 -- the whole number that field k is
 unfoldable pub wholeAt : List ℕ → ℕ → ℕ → Whole
-unfolding fieldBytes readWhole
+unfolding fieldBytes
 wholeAt text at k = readWhole (fieldBytes text at k)

@@ -53,7 +53,7 @@ locatedAt s ps =
 
 -- questions 1, 2, 10 and 8
 unfoldable pub locateAnswer : TrainState → PathTpc → Columns → Answer
-unfolding pathAnswer inTurn pathOf stateFinite pointBehind
+unfolding stateFinite pointBehind
 locateAnswer s p c =
     inTurn (
     pathAnswer (stateFinite s) p c
@@ -63,7 +63,7 @@ locateAnswer s p c =
 
 -- the answer, with the three link fields to be written: those of a refused call are the record's own
 unfoldable pub locateOf : TrainState → PathTpc → Columns → Located
-unfolding locateAnswer locatedAt pathOf
+unfolding locateAnswer locatedAt
 locateOf s p c = cond (isDone (locateAnswer s p c)) (locatedAt s (pathOf p c .links)) (locatedAsBefore s (locateAnswer s p c))
 
 -- the record with its three link fields written, and every other field as it was

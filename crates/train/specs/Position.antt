@@ -25,5 +25,4 @@ inLinkOf s = s .«offset_in_link» .0
 
 -- question 1: "Are the numbers of position finite, the length in position above 0?"
 unfoldable pub stateFinite : TrainState → Bool
-unfolding allFinite
 stateFinite s = allFinite (frontOf s ∷ backOf s ∷ lengthOf s ∷ weightOf s ∷ inLinkOf s ∷ []) && Ieee.lt +0 (lengthOf s)
