@@ -135,6 +135,6 @@ stays-clear train b x p c e claims matched grounded =
     let ten = first-done 9 twelve? (inRange x ps) (two .1) in
     let range = and-both (Ieee.le (offsetOf (linkPointAt ps 0)) x) (Ieee.le x (offsetOf (endPoint ps))) (ten .0) in
     let twelve = leb-true 2 (p .«link_count») (first-done 11 [] (leb 2 (p .«link_count»)) (ten .1) .0) in
-    let long : length ps ≡ p .«link_count» = ap (λ (q : PathTpc). q .«link_count») (unfold recordOf in counted p c) in
+    let long : length ps ≡ p .«link_count» = unfold recordOf in ap (λ (q : PathTpc). q .«link_count») (counted p c) in
     let left = own-clear (dropCount x ps) path (two-left x ps (omega arith) (of-true (range .1))) c (before p c (good .1) (good .2)) in
     stays train b (clearedPath (dropCount x ps) path) claims matched grounded (left .0) c (left .1)
