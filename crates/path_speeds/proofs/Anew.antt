@@ -11,7 +11,7 @@ use Rattle.speed.specs.Points.{Point, point}
 use Rattle.speed.specs.Column.{points, Holds, Leaves}
 use Rattle.speed.proofs.Held.{holds-points, holds-again, leaves-at, one-held}
 use Rattle.link.specs.declared.train_params.TrainParams.{TrainParams}
-use Rattle.link.specs.Train.{lengthOf, topSpeed}
+use Rattle.link.specs.Train.{topSpeed}
 use Rattle.path.specs.declared.link_point.LinkPoint.{LinkPoint}
 use Rattle.path.specs.Records.{offsetOf}
 use Rattle.path_speeds.specs.Limits.{SpeedSets, layLinks}
@@ -29,11 +29,11 @@ module _ (begin top : Float) (c : List Float) (room : 2 ≤ length c) {z d : Lis
   begun-points = holds-points d (point begin top ∷ []) 1 begun refl
 
 pub laid-anew :
-    (train : TrainParams) (q : SpeedSets) (present : List LinkPoint) (first : LinkPoint) {begin : Float} {ps : List Point} {d : List Float} {r : ℕ}
+    (train : TrainParams) (long : Float) (q : SpeedSets) (present : List LinkPoint) (first : LinkPoint) {begin : Float} {ps : List Point} {d : List Float} {r : ℕ}
     → begin ≡ offsetOf first
     → ps ≡ point begin (topSpeed train) ∷ []
-    → Leaves d r (layLinks train (lengthOf train) q ps present)
-    → Leaves d r (laidAnew train q present first)
+    → Leaves d r (layLinks train long q ps present)
+    → Leaves d r (laidAnew train long q present first)
 unfolding laidAnew
-laid-anew train q present first {d = d} {r = r} e f l =
-    leaves-at d r _ _ l (ap (λ (ps : List Point). layLinks train (lengthOf train) q ps present) (f ∙ ap (λ (o : Float). point o (topSpeed train) ∷ []) e))
+laid-anew train long q present first {d = d} {r = r} e f l =
+    leaves-at d r _ _ l (ap (λ (ps : List Point). layLinks train long q ps present) (f ∙ ap (λ (o : Float). point o (topSpeed train) ∷ []) e))

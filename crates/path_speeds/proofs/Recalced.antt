@@ -49,28 +49,28 @@ pointsLaid train q present = 1 + 2 * total (pointCount train q) present
 pub few-laid : (train : TrainParams) (q : SpeedSets) (at : ℕ → LinkPoint) (count : ℕ) → ((k : ℕ) → Fits w32 (getD (q .places) k 0)) → total (pointCount train q) (upFrom at 0 count) ≤ count * 2 ^ 32
 few-laid train q at count known = omega (arith, total-bound (pointCount train q) (upFrom at 0 count) (λ l. count-small train q (numberOf l) known), length-range at 0 count)
 
-module _ (train : TrainParams) (q : SpeedSets) (present : List LinkPoint) (n : ℕ) where
+module _ (train : TrainParams) (long : Float) (q : SpeedSets) (present : List LinkPoint) (n : ℕ) where
   abbrev eighth : Answer
-  eighth = askEach 8 (firstNo (map (pointFinite train (lengthOf train) q) present))
+  eighth = askEach 8 (firstNo (map (pointFinite train long q) present))
 
   abbrev fits : Bool
   fits = withinAll (pointsLaid train q present) 4096 (n / 2) (n / 2)
 
   -- r is the code's answer to question 8
   module _ {r : Answer} (e : r ≡ eighth) where
-    pub limits-8 : (r .number ≡ 0 → ⊥) → limitsAnswer train q present n ≡ r
+    pub limits-8 : (r .number ≡ 0 → ⊥) → limitsAnswer train long q present n ≡ r
     unfolding limitsAnswer
     limits-8 h = turn-no eighth (ask 9 fits ∷ []) e h
 
-    pub limits-9 : r .number ≡ 0 → limitsAnswer train q present n ≡ ask 9 fits
+    pub limits-9 : r .number ≡ 0 → limitsAnswer train long q present n ≡ ask 9 fits
     unfolding limitsAnswer
     limits-9 h = turn-yes eighth (ask 9 fits ∷ []) e h ∙ last-one 8 fits
 
-  limits-last : inTurn (limitsAnswer train q present n ∷ []) ≡ limitsAnswer train q present n
+  limits-last : inTurn (limitsAnswer train long q present n ∷ []) ≡ limitsAnswer train long q present n
   unfolding limitsAnswer
   limits-last = turn-last (eighth ∷ ask 9 fits ∷ [])
 
-  limits-room : limitsAnswer train q present n .number ≡ 0 → 2 * pointsLaid train q present ≤ n
+  limits-room : limitsAnswer train long q present n .number ≡ 0 → 2 * pointsLaid train q present ≤ n
   unfolding limitsAnswer
   limits-room h = times 2 (pointsLaid train q present) n (within-all (pointsLaid train q present) 4096 (n / 2) (n / 2) (first-done 8 [] fits (turn-done eighth (ask 9 fits ∷ []) h .1) .0) .1)
 
@@ -105,7 +105,7 @@ module _ (train : TrainParams) (t : LinkTable) (p : PathTpc) (c : Columns) where
   ofLinks = linksAnswer t (train .«train_type») Yes (map numberOf present)
 
   abbrev ofLimits : Answer
-  ofLimits = limitsAnswer train (setsOf t) present (length (c .speeds))
+  ofLimits = limitsAnswer train (lengthOf train) (setsOf t) present (length (c .speeds))
 
   few-links : ofLinks .number ≡ 0 → every (pointFew train (setsOf t)) present ≡ true
   few-links h = points-few train t present (links-done t (train .«train_type») Yes (map numberOf present) h .0)
@@ -135,13 +135,13 @@ module _ (train : TrainParams) (t : LinkTable) (p : PathTpc) (c : Columns) where
           pub range-few : every (pointFew train (setsOf t)) asRange ≡ true
           range-few = sym (ap (every (pointFew train (setsOf t))) (present-range p c)) ∙ few-links (ap (λ (a : Answer). a .number) (sym of-links) ∙ k)
 
-          pub recalc-limits : recalcAnswer train t p c ≡ limitsAnswer train (setsOf t) asRange (length (c .speeds))
+          pub recalc-limits : recalcAnswer train t p c ≡ limitsAnswer train (lengthOf train) (setsOf t) asRange (length (c .speeds))
           unfolding recalcAnswer
           recalc-limits =
               turn-yes own (ofLinks ∷ ofLimits ∷ []) e h
               ∙ turn-yes ofLinks (ofLimits ∷ []) of-links k
-              ∙ limits-last train (setsOf t) present (length (c .speeds))
-              ∙ ap (λ (ps : List LinkPoint). limitsAnswer train (setsOf t) ps (length (c .speeds))) (present-range p c)
+              ∙ limits-last train (lengthOf train) (setsOf t) present (length (c .speeds))
+              ∙ ap (λ (ps : List LinkPoint). limitsAnswer train (lengthOf train) (setsOf t) ps (length (c .speeds))) (present-range p c)
 
   -- what a call that is not refused knows
   recalc-done : recalcAnswer train t p c .number ≡ 0 → (sound p c ≡ true) × (every (pointFew train (setsOf t)) present ≡ true) × (2 * pointsLaid train (setsOf t) present ≤ length (c .speeds)) × (recalcAnswer train t p c ≡ done)
@@ -150,11 +150,11 @@ module _ (train : TrainParams) (t : LinkTable) (p : PathTpc) (c : Columns) where
       let a = turn-done own (ofLinks ∷ ofLimits ∷ []) e in
       let b = turn-done ofLinks (ofLimits ∷ []) (a .1) in
       let d = turn-done ofLimits [] (b .1) in
-      (judged-done (trainFinite train) p c refl (a .0) .2, few-links (b .0), limits-room train (setsOf t) present (length (c .speeds)) (d .0), turn-none (own ∷ ofLinks ∷ ofLimits ∷ []) e)
+      (judged-done (trainFinite train) p c refl (a .0) .2, few-links (b .0), limits-room train (lengthOf train) (setsOf t) present (length (c .speeds)) (d .0), turn-none (own ∷ ofLinks ∷ ofLimits ∷ []) e)
 
-  counts : recordOf (recalcedPath train t (pathOf p c)) ≡ withCount (length (recalcedSpeeds train t (pathOf p c .links))) p
+  counts : recordOf (recalcedPath train t (pathOf p c)) ≡ withCount (length (recalcedSpeeds train (lengthOf train) t (pathOf p c .links))) p
   unfolding recordOf recalcedPath
-  counts = ap (withCount (length (recalcedSpeeds train t (pathOf p c .links)))) (counted p c)
+  counts = ap (withCount (length (recalcedSpeeds train (lengthOf train) t (pathOf p c .links)))) (counted p c)
 
   -- ---- what is left
 
@@ -209,12 +209,12 @@ module _ (train : TrainParams) (t : LinkTable) (p : PathTpc) (c : Columns) where
         pub recalced :
             {ss′ : List Float} {n : ℕ}
             → length ss′ ≡ length ss
-            → Leaves ss′ n (laidAnew train (setsOf t) (upFrom (pointAt os ns) 0 (p .«link_count» - 1)) (pointAt os ns 0))
+            → Leaves ss′ n (laidAnew train (lengthOf train) (setsOf t) (upFrom (pointAt os ns) 0 (p .«link_count» - 1)) (pointAt os ns 0))
             → left (record { answer = r; path = withCount n p }) (columns os ns gs ks ss′ ws ds) ≡ recalcOf train t p c
         unfolding recalcOf columnsOf recalcedPath
         recalced {ss′ = ss′} {n = n} kept laid =
-            let anew = recalcedSpeeds train t (pathOf p c .links) in
-            let l = leaves-at ss′ n _ anew laid (ap₂ (laidAnew train (setsOf t)) same-range same-first) in
+            let anew = recalcedSpeeds train (lengthOf train) t (pathOf p c .links) in
+            let l = leaves-at ss′ n _ anew laid (ap₂ (laidAnew train (lengthOf train) (setsOf t)) same-range same-first) in
             let speeds = l .holds .is ∙ ap (λ (k : ℕ). filled +0 k (flat pair anew)) (kept ∙ same-length) in
             let cols = ap (withSpeeds ss′) zeroed ∙ ap (λ (ss : List Float). withSpeeds ss (columnsOf c (pathOf p c))) speeds in
             let answer = ap₂ {C = PathAnswer} (λ (a : Answer) (q : PathTpc). record { answer = a; path = q }) (e ∙ recalc-done done-number .3) (ap (λ (k : ℕ). withCount k p) (l .count) ∙ sym counts) in

@@ -1,6 +1,7 @@
 -- `recalc_speeds`, R55 and R56: the limits of the links still present, laid anew. path_tpc.rs. Definitions only.
 use Prim.Native.Nat.{ℕ, _+_, _*_, _/_}
-use lib.ListN.{length}
+use lib.ListN as list
+use lib.Ieee.{Float}
 use mathlib.Core.List.{List, [], _∷_, map}
 use Rattle.speed.specs.Points.{Point, point}
 use Rattle.link.specs.declared.train_params.TrainParams.{TrainParams}
@@ -16,13 +17,13 @@ use Rattle.path.specs.Answers.{ask, askEach, inTurn, linksAnswer, Outcome, outc
 use Rattle.path.specs.Sound.{pathAnswer, trainFinite, total}
 use Rattle.path_speeds.specs.Limits.{SpeedSets, setsOf, finiteAt, countAt, layLinks, pointFinite, pointCount}
 
--- from the first link point on at the top speed, and then the limits of the links that are present
-unfoldable pub laidAnew : TrainParams → SpeedSets → List LinkPoint → LinkPoint → List Point
+-- from the first link point on at the top speed, and then the limits of the links that are present, for a train of this length
+unfoldable pub laidAnew : TrainParams → Float → SpeedSets → List LinkPoint → LinkPoint → List Point
 unfolding layLinks
-laidAnew train q present first = layLinks train (lengthOf train) q (point (offsetOf first) (topSpeed train) ∷ []) present
+laidAnew train length q present first = layLinks train length q (point (offsetOf first) (topSpeed train) ∷ []) present
 
-abbrev pub recalcedSpeeds : TrainParams → LinkTable → List LinkPoint → List Point
-recalcedSpeeds train t ls = laidAnew train (setsOf t) (beginnings ls) (linkPointAt ls 0)
+abbrev pub recalcedSpeeds : TrainParams → Float → LinkTable → List LinkPoint → List Point
+recalcedSpeeds train length t ls = laidAnew train length (setsOf t) (beginnings ls) (linkPointAt ls 0)
 
 unfoldable pub recalcedPath : TrainParams → LinkTable → Path → Path
 unfolding laidAnew
@@ -31,17 +32,17 @@ recalcedPath train t path =
       links = path .links;
       grades = path .grades;
       curves = path .curves;
-      speeds = recalcedSpeeds train t (path .links);
+      speeds = recalcedSpeeds train (lengthOf train) t (path .links);
       powers = path .powers;
       finished = path .finished;
     }
 
--- questions 8 and 9: n is the length of the speed column
-unfoldable pub limitsAnswer : TrainParams → SpeedSets → List LinkPoint → ℕ → Answer
+-- questions 8 and 9, for a train of this length: n is the length of the speed column
+unfoldable pub limitsAnswer : TrainParams → Float → SpeedSets → List LinkPoint → ℕ → Answer
 unfolding finiteAt countAt
-limitsAnswer train q present n =
+limitsAnswer train length q present n =
     inTurn (
-    askEach 8 (firstNo (map (pointFinite train (lengthOf train) q) present))
+    askEach 8 (firstNo (map (pointFinite train length q) present))
     ∷ ask 9 (withinAll (1 + 2 * total (pointCount train q) present) 4096 (n / 2) (n / 2))
     ∷ [])
 
@@ -53,7 +54,7 @@ recalcAnswer train t p c =
     inTurn (
     pathAnswer (trainFinite train) p c
     ∷ linksAnswer t (train .«train_type») Yes (map numberOf present)
-    ∷ limitsAnswer train (setsOf t) present (length (c .speeds))
+    ∷ limitsAnswer train (lengthOf train) (setsOf t) present (list.length (c .speeds))
     ∷ [])
 
 unfoldable pub recalcOf : TrainParams → LinkTable → PathTpc → Columns → Outcome

@@ -30,7 +30,7 @@ ghost use Rattle.path.specs.Sound.{total};
 ghost use Rattle.path_speeds.specs.Limits.{speedSets, pointFew, pointCount};
 ghost use Rattle.path_speeds.specs.Recalc as spec;
 
-// Questions 8 and 9.
+// Questions 8 and 9, for a train of the length `own`.
 fn limits_answer(
     offsets: &[f64],
     numbers: &[u32],
@@ -40,13 +40,13 @@ fn limits_answer(
     codes: &[u32],
     values: &[f64],
     limits: &[f64],
+    own: Length,
     train: TrainParams,
 ) -> Answer
     requires { ⌜ count ≤ 1025 ⌝ }
     requires { ⌜ every (pointFew train (speedSets (now sets) (now codes) (now values) (now limits))) (upFrom (pointAt (now offsets) (now numbers)) 0 count) ≡ true ⌝ }
-    ensures { λ r. ⌜ r ≡ spec.limitsAnswer train (speedSets (now (sets .entry)) (now (codes .entry)) (now (values .entry)) (now (limits .entry))) (upFrom (pointAt (now (offsets .entry)) (now (numbers .entry))) 0 count) (list.length (now (speeds .entry))) ⌝ }
+    ensures { λ r. ⌜ r ≡ spec.limitsAnswer train (own .0) (speedSets (now (sets .entry)) (now (codes .entry)) (now (values .entry)) (now (limits .entry))) (upFrom (pointAt (now (offsets .entry)) (now (numbers .entry))) 0 count) (list.length (now (speeds .entry))) ⌝ }
 {
-    let own = Length(train.length.0);
     let sums = points_finite(
         offsets,
         numbers,
@@ -129,6 +129,7 @@ fn recalc_answer(
     if present.number != 0 {
         return present;
     }
+    let own = Length(train.length.0);
     limits_answer(
         offsets,
         numbers,
@@ -138,11 +139,12 @@ fn recalc_answer(
         codes,
         values,
         limits,
+        own,
         train,
     )
 }
 
-// One speed point, at the path's beginning, and then the limits of the first `count` link points.
+// One speed point, at the path's beginning, and then the limits of the first `count` link points, for a train of the length `own`.
 fn lay_anew(
     speeds: &mut [f64],
     offsets: &[f64],
@@ -152,17 +154,17 @@ fn lay_anew(
     codes: &[u32],
     values: &[f64],
     limits: &[f64],
+    own: Length,
     train: TrainParams,
 ) -> usize
     requires { ⌜ count ≤ 1025 ⌝ }
     requires { ⌜ every (pointFew train (speedSets (now sets) (now codes) (now values) (now limits))) (upFrom (pointAt (now offsets) (now numbers)) 0 count) ≡ true ⌝ }
     requires { ⌜ 2 * (1 + 2 * total (pointCount train (speedSets (now sets) (now codes) (now values) (now limits))) (upFrom (pointAt (now offsets) (now numbers)) 0 count)) ≤ list.length (now speeds) ⌝ }
-    ensures { λ r. ⌜ Leaves (now (speeds .exit)) r (spec.laidAnew train (speedSets (now (sets .entry)) (now (codes .entry)) (now (values .entry)) (now (limits .entry))) (upFrom (pointAt (now (offsets .entry)) (now (numbers .entry))) 0 count) (pointAt (now (offsets .entry)) (now (numbers .entry)) 0)) ⌝ }
+    ensures { λ r. ⌜ Leaves (now (speeds .exit)) r (spec.laidAnew train (own .0) (speedSets (now (sets .entry)) (now (codes .entry)) (now (values .entry)) (now (limits .entry))) (upFrom (pointAt (now (offsets .entry)) (now (numbers .entry))) 0 count) (pointAt (now (offsets .entry)) (now (numbers .entry)) 0)) ⌝ }
 {
     let begin = column::floats::get(offsets, 0);
     column::floats::zero_from(&mut *speeds, 0);
     put_two(&mut *speeds, 0, Two(begin, train.speed_max.0));
-    let own = Length(train.length.0);
     lay_links(
         &mut *speeds,
         1,
@@ -238,6 +240,7 @@ pub fn recalc_speeds(
         &mut *districts,
     );
     let count = p.link_count - 1;
+    let own = Length(train.length.0);
     let n = lay_anew(
         &mut *speeds,
         &*offsets,
@@ -247,6 +250,7 @@ pub fn recalc_speeds(
         codes,
         values,
         limits,
+        own,
         train,
     );
     PathAnswer {

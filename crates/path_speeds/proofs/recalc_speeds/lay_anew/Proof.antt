@@ -33,7 +33,7 @@ returns c =
     let q = speedSets (a .sets .now) (a .codes .now) (a .values .now) (a .limits .now) in
     let room = c .before .before .before .before .before .before .before .before .before .before .before .before .before .before .before .before .before .before .before .before .pre .1 .1 in
     let at = pointAt (a .offsets .now) (a .numbers .now) in
-    laid-anew (a .train) q (upFrom at 0 (a .count)) (at 0) (c .before .before .before .before .before .before .before .before .before .before .before .before .get .ensures) (begun-points (c .before .before .before .before .before .before .before .before .before .before .before .before .get .result) (topSpeed (a .train)) (a .speeds .now) (omega arith) (c .before .before .before .before .before .before .before .before .before .before .zero-from .ensures) (c .before .before .before .before .before .before .put-two .ensures)) (c .before .before .lay-links .ensures)
+    laid-anew (a .train) (a .own .0) q (upFrom at 0 (a .count)) (at 0) (c .before .before .before .before .before .before .before .before .before .before .before .before .get .ensures) (begun-points (c .before .before .before .before .before .before .before .before .before .before .before .before .get .result) (topSpeed (a .train)) (a .speeds .now) (omega arith) (c .before .before .before .before .before .before .before .before .before .before .zero-from .ensures) (c .before .before .before .before .before .before .put-two .ensures)) (c .before .before .lay-links .ensures)
 
 pub lay-anew-spec : {M : Type 1} → statement M
 lay-anew-spec =

@@ -23,7 +23,7 @@ returns c =
     let a = c .before .before .before .before .before .before .before .before .before .before .before .args in
     let q = speedSets (a .sets .now) (a .codes .now) (a .values .now) (a .limits .now) in
     let present = upFrom (pointAt (a .offsets .now) (a .numbers .now)) 0 (a .count) in
-    sym (limits-8 (a .train) q present (length (a .speeds .now)) (c .before .before .asked-each .ensures ∙ ap (askEach 8) (c .before .before .before .points-finite .ensures)) (c .if1 .taken))
+    sym (limits-8 (a .train) (a .own .0) q present (length (a .speeds .now)) (c .before .before .asked-each .ensures ∙ ap (askEach 8) (c .before .before .before .points-finite .ensures)) (c .if1 .taken))
 
 points-count-requires : tie.Need-points-count-requires
 points-count-requires c κs = search needs
@@ -52,7 +52,7 @@ returns-2 c =
     let q = speedSets (a .sets .now) (a .codes .now) (a .values .now) (a .limits .now) in
     let present = upFrom (pointAt (a .offsets .now) (a .numbers .now)) 0 (a .count) in
     let n = length (a .speeds .now) in
-    c .asked .ensures ∙ ap (ask 9) (c .before .within .ensures ∙ ap (λ (k : ℕ). withinAll (1 + 2 * k) 4096 (n / 2) (n / 2)) (c .before .before .points-count .ensures)) ∙ sym (limits-9 (a .train) q present n (c .before .before .before .before .before .asked-each .ensures ∙ ap (askEach 8) (c .before .before .before .before .before .before .points-finite .ensures)) (c .before .before .before .if1 .left))
+    c .asked .ensures ∙ ap (ask 9) (c .before .within .ensures ∙ ap (λ (k : ℕ). withinAll (1 + 2 * k) 4096 (n / 2) (n / 2)) (c .before .before .points-count .ensures)) ∙ sym (limits-9 (a .train) (a .own .0) q present n (c .before .before .before .before .before .asked-each .ensures ∙ ap (askEach 8) (c .before .before .before .before .before .before .points-finite .ensures)) (c .before .before .before .if1 .left))
 
 pub limits-answer-spec : {M : Type 1} → statement M
 limits-answer-spec =
