@@ -14,6 +14,7 @@ use Rattle.lookup.proofs.Coeffs.{triple-lawful}
 use Rattle.link.specs.declared.train_params.TrainParams.{TrainParams}
 use Rattle.link.specs.declared.network.Judged.{Judged}
 use Rattle.link.specs.Lists.{every, firstNo}
+use Rattle.link.specs.Train.{lengthOf}
 use Rattle.link.specs.Table.{LinkTable}
 use Rattle.link.specs.Questions.{numbers, question5, wellFormed}
 use Rattle.link.proofs.Known.{and-both, all-formed, numbers-plain}
@@ -76,20 +77,26 @@ module _ (train : TrainParams) (t : LinkTable) (ns : List ℕ) (p : PathTpc) (c 
       (ap₂ (λ (k : ℕ) (x : Float). startingNet (t .links) (t .elevs) k x ns) (sym lg) (ap netOf (sym e₂)) ∙ sym (ap netOf e₄))
       (ap netOf (sym e₃))
 
-  -- ---- questions 8 and 9
+-- ---- questions 8 and 9
+module _ (train : TrainParams) (own : Float) (t : LinkTable) (ns : List ℕ) (p : PathTpc) (c : Columns) where
   abbrev summed : Judged
-  summed = firstNo (sumsFrom train t (frontOf (started t (pathOf p c) ns)) ns)
+  summed = firstNo (sumsFrom train own t (frontOf (started t (pathOf p c) ns)) ns)
 
   module _ {r : Answer} (e : r ≡ askEach 8 summed) where
-    pub sums-8 : (r .number ≡ 0 → ⊥) → sumsAnswer train t ns p c ≡ r
+    pub sums-8 : (r .number ≡ 0 → ⊥) → sumsAnswer train own t ns p c ≡ r
     unfolding sumsAnswer
     sums-8 h = turn-no (askEach 8 summed) (ask 9 (recordsFit train t ns p c) ∷ []) e h
 
-    pub sums-9 : r .number ≡ 0 → sumsAnswer train t ns p c ≡ ask 9 (recordsFit train t ns p c)
+    pub sums-9 : r .number ≡ 0 → sumsAnswer train own t ns p c ≡ ask 9 (recordsFit train t ns p c)
     unfolding sumsAnswer
     sums-9 h = turn-yes (askEach 8 summed) (ask 9 (recordsFit train t ns p c) ∷ []) e h ∙ last-one 8 (recordsFit train t ns p c)
 
-  -- ---- all questions
+  sums-last : inTurn (sumsAnswer train own t ns p c ∷ []) ≡ sumsAnswer train own t ns p c
+  unfolding sumsAnswer
+  sums-last = turn-last (askEach 8 summed ∷ ask 9 (recordsFit train t ns p c) ∷ [])
+
+-- ---- all questions
+module _ (train : TrainParams) (t : LinkTable) (ns : List ℕ) (p : PathTpc) (c : Columns) where
   abbrev first2 : Answer
   first2 = pathAnswer (trainFinite train) p c
 
@@ -97,14 +104,10 @@ module _ (train : TrainParams) (t : LinkTable) (ns : List ℕ) (p : PathTpc) (c 
   named = linksAnswer t (train .«train_type») (followed (t .links) (linkPoints (p .«link_count») (c .offsets) (c .numbers)) ns) ns
 
   abbrev after3 : List Answer
-  after3 = named ∷ sumsAnswer train t ns p c ∷ []
+  after3 = named ∷ sumsAnswer train (lengthOf train) t ns p c ∷ []
 
   abbrev after2 : List Answer
   after2 = ask 3 (isOpen p) ∷ after3
-
-  sums-last : inTurn (sumsAnswer train t ns p c ∷ []) ≡ sumsAnswer train t ns p c
-  unfolding sumsAnswer
-  sums-last = turn-last (askEach 8 summed ∷ ask 9 (recordsFit train t ns p c) ∷ [])
 
   module _ {r : Answer} (e : r ≡ first2) where
     pub extend-first : (r .number ≡ 0 → ⊥) → extendAnswer train t ns p c ≡ r
@@ -122,11 +125,11 @@ module _ (train : TrainParams) (t : LinkTable) (ns : List ℕ) (p : PathTpc) (c 
       module _ (open-path : isOpen p ≡ true) {l : Answer} (f : l ≡ named) where
         pub extend-named : (l .number ≡ 0 → ⊥) → extendAnswer train t ns p c ≡ l
         unfolding extendAnswer pathOf
-        extend-named k = turn-yes first2 after2 e h ∙ first-yes 2 after3 open-path ∙ turn-no named (sumsAnswer train t ns p c ∷ []) f k
+        extend-named k = turn-yes first2 after2 e h ∙ first-yes 2 after3 open-path ∙ turn-no named (sumsAnswer train (lengthOf train) t ns p c ∷ []) f k
 
-        pub extend-sums : l .number ≡ 0 → extendAnswer train t ns p c ≡ sumsAnswer train t ns p c
+        pub extend-sums : l .number ≡ 0 → extendAnswer train t ns p c ≡ sumsAnswer train (lengthOf train) t ns p c
         unfolding extendAnswer pathOf
-        extend-sums k = turn-yes first2 after2 e h ∙ first-yes 2 after3 open-path ∙ turn-yes named (sumsAnswer train t ns p c ∷ []) f k ∙ sums-last
+        extend-sums k = turn-yes first2 after2 e h ∙ first-yes 2 after3 open-path ∙ turn-yes named (sumsAnswer train (lengthOf train) t ns p c ∷ []) f k ∙ sums-last train (lengthOf train) t ns p c
 
         pub named-formed : l .number ≡ 0 → every (wellFormed t) ns ≡ true
         named-formed k =
@@ -146,9 +149,9 @@ module _ (train : TrainParams) (t : LinkTable) (ns : List ℕ) (p : PathTpc) (c 
   settled h =
       let a = turn-done first2 after2 h in
       let b = first-done 2 after3 (isOpen p) (a .1) in
-      let l = turn-done named (sumsAnswer train t ns p c ∷ []) (b .1) in
-      let s = turn-done (sumsAnswer train t ns p c) [] (l .1) in
-      let w = turn-done (askEach 8 summed) (ask 9 (recordsFit train t ns p c) ∷ []) (s .0) in
+      let l = turn-done named (sumsAnswer train (lengthOf train) t ns p c ∷ []) (b .1) in
+      let s = turn-done (sumsAnswer train (lengthOf train) t ns p c) [] (l .1) in
+      let w = turn-done (askEach 8 (summed train (lengthOf train) t ns p c)) (ask 9 (recordsFit train t ns p c) ∷ []) (s .0) in
       record {
         path = judged-done (trainFinite train) p c refl (a .0) .2;
         still-open = b .0;

@@ -13,7 +13,6 @@ use Rattle.link.specs.declared.train_params.TrainParams.{TrainParams}
 use Rattle.link.specs.declared.network.LinkNumbers.{LinkNumbers}
 use Rattle.link.specs.declared.network.Judged.the-variants.{Yes, NoAt}
 use Rattle.link.specs.Lists.{every, upFrom, firstNoFrom}
-use Rattle.link.specs.Train.{lengthOf}
 use Rattle.link.specs.Table.{LinkTable, sampleAt, powerAt, numbersOf}
 use Rattle.link.proofs.Judging.{said-no, said-yes}
 use Rattle.path_speeds.specs.Limits.{setsOf, finiteAt}
@@ -27,13 +26,13 @@ use Rattle.path_extend.specs.Sums.{front, frontAfter, sumsFinite, sumsFr
 use Rattle.path_extend.specs.Steps.{walked}
 use Rattle.path_join.proofs.Left.{left-next}
 
-module _ (train : TrainParams) (t : LinkTable) (at : Front) where
+module _ (train : TrainParams) (own : Float) (t : LinkTable) (at : Front) where
   -- one link, as the code walks it: l are its numbers
   pub walked-link :
       (n : ℕ) {l : LinkNumbers} {long : Float} {laid far drawn : Bool} {slopes bends : Reached}
       → l ≡ numbersOf (t .links) n
       → long ≡ lengthAt (t .lengths) n
-      → laid ≡ finiteAt train (lengthOf train) (setsOf t) (at .link .0) n
+      → laid ≡ finiteAt train own (setsOf t) (at .link .0) n
       → slopes ≡ reached (at .grade .0) (at .«grade_net» .0) (stretches false train (at .grade .0) (at .«grade_net» .0) long (upFrom (sampleAt (t .elevs)) (l .«elevs_first») (l .«elevs_count»)))
       → bends ≡ reached (at .grade .0) (at .«curve_net» .0) (stretches true train (at .grade .0) (at .«curve_net» .0) long (upFrom (sampleAt (t .headings)) (l .«headings_first») (l .«headings_count»)))
       → drawn ≡ every (powerFinite (at .grade .0)) (upFrom (powerAt (t .powers) (t .districts)) (l .«powers_first») (l .«powers_count»))
@@ -41,21 +40,21 @@ module _ (train : TrainParams) (t : LinkTable) (at : Front) where
       → record {
         finite = laid && ((far && Ieee.lt (at .link .0) (long ⊕ at .link .0)) && (slopes .finite && (bends .finite && drawn)));
         front = front (long ⊕ at .link .0) (slopes .offset .0) (slopes .net .0) (bends .net .0);
-      } ≡ walked train t at n
+      } ≡ walked train own t at n
   unfolding sumsFinite frontAfter reached
   walked-link n e₁ e₂ e₃ e₄ e₅ e₆ e₇ = rw (e₃, e₇, e₄, e₅, e₆, e₁, e₂)
 
   -- ---- the first that fails of the links from position k on; w is what link k answers
   module _ (ns : List ℕ) (k : ℕ) where
-    module _ (h : k < length ns) {w : Walked} (e : w ≡ walked train t at (getD ns k 0)) where
-      pub sums-pass : not (w .finite) ≡ false → firstNoFrom k (sumsFrom train t at (drop k ns)) ≡ firstNoFrom (k + 1) (sumsFrom train t (w .front) (drop (k + 1) ns))
+    module _ (h : k < length ns) {w : Walked} (e : w ≡ walked train own t at (getD ns k 0)) where
+      pub sums-pass : not (w .finite) ≡ false → firstNoFrom k (sumsFrom train own t at (drop k ns)) ≡ firstNoFrom (k + 1) (sumsFrom train own t (w .front) (drop (k + 1) ns))
       unfolding firstNoFrom sumsFrom
       sums-pass p = rw (left-next ns k h, said-yes (ap (λ (v : Walked). v .finite) e) p, add-one k, e)
 
-      pub sums-fail : not (w .finite) ≡ true → firstNoFrom k (sumsFrom train t at (drop k ns)) ≡ NoAt k
+      pub sums-fail : not (w .finite) ≡ true → firstNoFrom k (sumsFrom train own t at (drop k ns)) ≡ NoAt k
       unfolding firstNoFrom sumsFrom
       sums-fail p = rw (left-next ns k h, said-no (ap (λ (v : Walked). v .finite) e) p)
 
-    pub sums-end : length ns ≤ k → firstNoFrom k (sumsFrom train t at (drop k ns)) ≡ Yes
+    pub sums-end : length ns ≤ k → firstNoFrom k (sumsFrom train own t at (drop k ns)) ≡ Yes
     unfolding firstNoFrom sumsFrom
     sums-end h = rw (drop-of-length-le ns h)

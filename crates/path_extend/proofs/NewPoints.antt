@@ -100,31 +100,32 @@ module _ (links : List ℕ) (lengths : List Float) where
     points-counted e [] own = refl
     points-counted e (n ∷ ns) own = ap₂ _+_ (ap (countAt train q) (own .0)) (points-counted (endOf e n) ns (own .1))
 
-    -- the limits of the listed links in turn
-    laidFrom : List Point → LinkPoint → List ℕ → List Point
-    laidFrom sp e [] = sp
-    laidFrom sp e (n ∷ ns) = laidFrom (layAll sp (layingAt train (lengthOf train) q (offsetOf e) n)) (endOf e n) ns
+    -- the limits of the listed links in turn, for a train of this length
+    module _ (long : Float) where
+      laidFrom : List Point → LinkPoint → List ℕ → List Point
+      laidFrom sp e [] = sp
+      laidFrom sp e (n ∷ ns) = laidFrom (layAll sp (layingAt train long q (offsetOf e) n)) (endOf e n) ns
 
-    laid-links : (sp : List Point) (e : LinkPoint) (ns : List ℕ) → Own ns → layLinks train (lengthOf train) q sp (take (length ns) (newPoints e ns)) ≡ laidFrom sp e ns
-    unfolding layLinks newPoints laidFrom
-    laid-links sp e [] own = refl
-    laid-links sp e (n ∷ ns) own =
-        ap (λ (k : ℕ). layLinks train (lengthOf train) q (layAll sp (layingAt train (lengthOf train) q (offsetOf e) k)) (take (length ns) (newPoints (endOf e n) ns))) (own .0)
-        ∙ laid-links (layAll sp (layingAt train (lengthOf train) q (offsetOf e) n)) (endOf e n) ns (own .1)
+      laid-links : (sp : List Point) (e : LinkPoint) (ns : List ℕ) → Own ns → layLinks train long q sp (take (length ns) (newPoints e ns)) ≡ laidFrom sp e ns
+      unfolding layLinks newPoints laidFrom
+      laid-links sp e [] own = refl
+      laid-links sp e (n ∷ ns) own =
+          ap (λ (k : ℕ). layLinks train long q (layAll sp (layingAt train long q (offsetOf e) k)) (take (length ns) (newPoints (endOf e n) ns))) (own .0)
+          ∙ laid-links (layAll sp (layingAt train long q (offsetOf e) n)) (endOf e n) ns (own .1)
 
 -- ---- the speed points of the path with the listed links joined
 module _ (train : TrainParams) (t : LinkTable) where
-  speeds-from : (ns : List ℕ) (path : Path) (front : List LinkPoint) (e : LinkPoint) → path .links ≡ front ++ e ∷ [] → joinAll train t path ns .speeds ≡ laidFrom (t .links) (t .lengths) train (setsOf t) (path .speeds) e ns
+  speeds-from : (ns : List ℕ) (path : Path) (front : List LinkPoint) (e : LinkPoint) → path .links ≡ front ++ e ∷ [] → joinAll train t path ns .speeds ≡ laidFrom (t .links) (t .lengths) train (setsOf t) (lengthOf train) (path .speeds) e ns
   unfolding joinAll join laidFrom
   speeds-from [] path front e h = refl
   speeds-from (n ∷ ns) path front e h =
       let end : endPoint (path .links) ≡ e = ap endPoint h ∙ last-snoc front e noLinkPoint in
       speeds-from ns (join train t path n) (front ++ pointOf (t .links) (t .lengths) e n ∷ []) (endOf (t .links) (t .lengths) e n)
       (ap (λ (l : List LinkPoint). joinPoint (t .links) (t .lengths) l n) h ∙ join-snoc (t .links) (t .lengths) front e n)
-      ∙ ap (λ (p : LinkPoint). laidFrom (t .links) (t .lengths) train (setsOf t) (layAll (path .speeds) (layingAt train (lengthOf train) (setsOf t) (offsetOf p) n)) (endOf (t .links) (t .lengths) e n) ns) end
+      ∙ ap (λ (p : LinkPoint). laidFrom (t .links) (t .lengths) train (setsOf t) (lengthOf train) (layAll (path .speeds) (layingAt train (lengthOf train) (setsOf t) (offsetOf p) n)) (endOf (t .links) (t .lengths) e n) ns) end
 
   pub speeds-joined : (path : Path) (ns : List ℕ) → 0 < length (path .links) → Own (t .links) (t .lengths) ns
       → joinAll train t path ns .speeds ≡ layLinks train (lengthOf train) (setsOf t) (path .speeds) (take (length ns) (newPoints (t .links) (t .lengths) (endPoint (path .links)) ns))
   speeds-joined path ns h own =
       speeds-from ns path (take (length (path .links) - 1) (path .links)) (endPoint (path .links)) (ends-with (t .links) (t .lengths) (path .links) h)
-      ∙ sym (laid-links (t .links) (t .lengths) train (setsOf t) (path .speeds) (endPoint (path .links)) ns own)
+      ∙ sym (laid-links (t .links) (t .lengths) train (setsOf t) (lengthOf train) (path .speeds) (endPoint (path .links)) ns own)

@@ -3,10 +3,12 @@ use Prim.Native.Nat.{ℕ, _+_, _-_, _*_}
 use mathlib.Core.Bool.{Bool, _&&_, cond}
 use mathlib.Core.List.{List, [], _∷_}
 use lib.Dec.{leb}
-use lib.ListN.{length}
+use lib.ListN as list
+use lib.Ieee.{Float}
 use Rattle.link.specs.declared.train_params.TrainParams.{TrainParams}
 use Rattle.link.specs.declared.network.Judged.{Judged}
 use Rattle.link.specs.Lists.{firstNo}
+use Rattle.link.specs.Train.{lengthOf}
 use Rattle.link.specs.Table.{LinkTable, numbersOf}
 use Rattle.link.specs.Questions.{question5}
 use Rattle.path.specs.declared.path_tpc.PathTpc.{PathTpc}
@@ -23,7 +25,7 @@ use Rattle.path_extend.specs.Sums.{frontOf, sumsFrom}
 -- question 9 (R112): speed points need the present count and two for each limit laid
 unfoldable pub recordsFit : TrainParams → LinkTable → List ℕ → PathTpc → Columns → Bool
 recordsFit train t ns p c =
-    fitsLinks (p .«link_count» + length ns) c
+    fitsLinks (p .«link_count» + list.length ns) c
     && (fitsGrades (p .«grade_count» + sumOf (gradesIn (t .links)) ns) c
     && (fitsCurves (p .«curve_count» + sumOf (curvesIn (t .links)) ns) c
     && (fitsSpeeds (p .«speed_count» + 2 * sumOf (countAt train (setsOf t)) ns) c
@@ -31,14 +33,14 @@ recordsFit train t ns p c =
 
 -- question 5: the first listed link follows the path's last one, where the path has a link
 unfoldable pub followed : List ℕ → List LinkPoint → List ℕ → Judged
-followed links ps ns = question5 links (leb 2 (length ps)) (cond (leb 2 (length ps)) (numberOf (linkPointAt ps (length ps - 2))) 0) ns
+followed links ps ns = question5 links (leb 2 (list.length ps)) (cond (leb 2 (list.length ps)) (numberOf (linkPointAt ps (list.length ps - 2))) 0) ns
 
--- questions 8 and 9
-unfoldable pub sumsAnswer : TrainParams → LinkTable → List ℕ → PathTpc → Columns → Answer
+-- questions 8 and 9, for a train of this length
+unfoldable pub sumsAnswer : TrainParams → Float → LinkTable → List ℕ → PathTpc → Columns → Answer
 unfolding sumsFrom frontOf recordsFit
-sumsAnswer train t ns p c =
+sumsAnswer train length t ns p c =
     inTurn (
-    askEach 8 (firstNo (sumsFrom train t (frontOf (started t (pathOf p c) ns)) ns))
+    askEach 8 (firstNo (sumsFrom train length t (frontOf (started t (pathOf p c) ns)) ns))
     ∷ ask 9 (recordsFit train t ns p c)
     ∷ [])
 
@@ -49,7 +51,7 @@ extendAnswer train t ns p c =
     pathAnswer (trainFinite train) p c
     ∷ ask 3 (isOpen p)
     ∷ linksAnswer t (train .«train_type») (followed (t .links) (pathOf p c .links) ns) ns
-    ∷ sumsAnswer train t ns p c
+    ∷ sumsAnswer train (lengthOf train) t ns p c
     ∷ [])
 
 unfoldable pub extendOf : TrainParams → LinkTable → List ℕ → PathTpc → Columns → Outcome

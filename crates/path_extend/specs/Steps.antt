@@ -26,9 +26,9 @@ use Rattle.path_extend.specs.declared.fit.Counts.{Counts}
 use Rattle.path_extend.specs.Sums.{front, frontAfter, sumsFinite}
 use Rattle.path_extend.specs.Extend.{recordsFit}
 
--- whether a link's sums are finite, and where the path stands after it
-abbrev pub walked : TrainParams → LinkTable → Front → ℕ → Walked
-walked train t at n = record { finite = sumsFinite train t at n; front = frontAfter train t at n }
+-- whether a link's sums are finite, for a train of this length, and where the path stands after it
+abbrev pub walked : TrainParams → Float → LinkTable → Front → ℕ → Walked
+walked train length t at n = record { finite = sumsFinite train length t at n; front = frontAfter train t at n }
 
 -- how many grades, curves and power limits the listed links have
 unfoldable pub countsOf : List ℕ → List ℕ → Counts

@@ -9,7 +9,6 @@ use Rattle.ieee.specs.Number.{_⊕_}
 use Rattle.lookup.specs.Coeff.{standsAt, netOf}
 use Rattle.link.specs.declared.train_params.TrainParams.{TrainParams}
 use Rattle.link.specs.Lists.{every, upFrom}
-use Rattle.link.specs.Train.{lengthOf}
 use Rattle.link.specs.Table.{LinkTable, numbersOf}
 use Rattle.path.specs.Records.{Path, offsetOf, endPoint, lastCoeff}
 use Rattle.path_speeds.specs.Limits.{setsOf, finiteAt}
@@ -43,14 +42,14 @@ unfoldable pub frontAfter : TrainParams → LinkTable → Front → ℕ → Fron
 frontAfter train t at n =
     front (endAt t at n) (offsetAfter (at .grade .0) (gradesAt train t at n)) (netAfter (at .«grade_net» .0) (gradesAt train t at n)) (netAfter (at .«curve_net» .0) (curvesAt train t at n))
 
--- question 8 (R111): every result is finite, and the link's end lies beyond its beginning
-unfoldable pub sumsFinite : TrainParams → LinkTable → Front → ℕ → Bool
-sumsFinite train t at n =
-    finiteAt train (lengthOf train) (setsOf t) (at .link .0) n
+-- question 8 (R111), for a train of this length: every result is finite, and the link's end lies beyond its beginning
+unfoldable pub sumsFinite : TrainParams → Float → LinkTable → Front → ℕ → Bool
+sumsFinite train length t at n =
+    finiteAt train length (setsOf t) (at .link .0) n
     && ((finite (endAt t at n) && Ieee.lt (at .link .0) (endAt t at n))
     && (every isFinite (gradesAt train t at n) && (every isFinite (curvesAt train t at n) && every (powerFinite (at .grade .0)) (powersAt (t .links) (t .powers) (t .districts) n))))
 
-unfoldable pub sumsFrom : TrainParams → LinkTable → Front → List ℕ → List Bool
+unfoldable pub sumsFrom : TrainParams → Float → LinkTable → Front → List ℕ → List Bool
 unfolding sumsFinite frontAfter
-sumsFrom train t at [] = []
-sumsFrom train t at (n ∷ ns) = sumsFinite train t at n ∷ sumsFrom train t (frontAfter train t at n) ns
+sumsFrom train length t at [] = []
+sumsFrom train length t at (n ∷ ns) = sumsFinite train length t at n ∷ sumsFrom train length t (frontAfter train t at n) ns

@@ -79,9 +79,10 @@ fn start_front(
     }
 }
 
-// Questions 8 and 9.
+// Questions 8 and 9, for a train of the length `own`.
 fn sums_answer(
     p: PathTpc,
+    own: Length,
     train: TrainParams,
     list: &[u32],
     offsets: &[f64],
@@ -104,7 +105,7 @@ fn sums_answer(
 ) -> Answer
     requires { ⌜ sound p (columns (now offsets) (now numbers) (now grades) (now curves) (now speeds) (now powers) (now districts)) ≡ true ⌝ }
     requires { ⌜ every (fewAt train (setsOf (tableOf (now links) (now lengths) (now sets) (now elevs) (now headings) (now limits) (now codes) (now values) (now pool) (now regions)))) (now list) ≡ true ⌝ }
-    ensures { λ r. ⌜ r ≡ spec.sumsAnswer train (tableOf (now (links .entry)) (now (lengths .entry)) (now (sets .entry)) (now (elevs .entry)) (now (headings .entry)) (now (limits .entry)) (now (codes .entry)) (now (values .entry)) (now (pool .entry)) (now (regions .entry))) (now (list .entry)) p (columns (now (offsets .entry)) (now (numbers .entry)) (now (grades .entry)) (now (curves .entry)) (now (speeds .entry)) (now (powers .entry)) (now (districts .entry))) ⌝ }
+    ensures { λ r. ⌜ r ≡ spec.sumsAnswer train (own .0) (tableOf (now (links .entry)) (now (lengths .entry)) (now (sets .entry)) (now (elevs .entry)) (now (headings .entry)) (now (limits .entry)) (now (codes .entry)) (now (values .entry)) (now (pool .entry)) (now (regions .entry))) (now (list .entry)) p (columns (now (offsets .entry)) (now (numbers .entry)) (now (grades .entry)) (now (curves .entry)) (now (speeds .entry)) (now (powers .entry)) (now (districts .entry))) ⌝ }
 {
     let front = start_front(p, list, links, elevs, offsets, grades, curves);
     let sums = sums_question(
@@ -120,6 +121,7 @@ fn sums_answer(
         values,
         pool,
         regions,
+        own,
         train,
     );
     let first = asked_each(8, sums);
@@ -214,8 +216,10 @@ fn extend_answer(
     if named.number != 0 {
         return named;
     }
+    let own = Length(train.length.0);
     sums_answer(
         p,
+        own,
         train,
         list,
         offsets,

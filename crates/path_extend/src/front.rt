@@ -29,7 +29,7 @@ pub struct Walked {
     pub front: Front,
 }
 
-// Link i, joined where the path stands.
+// Link i, joined where the path stands, for a train of the length `own`.
 fn walk_link(
     at: Front,
     i: usize,
@@ -43,16 +43,17 @@ fn walk_link(
     values: &[f64],
     pool: &[f64],
     regions: &[u32],
+    own: Length,
     train: TrainParams,
 ) -> Walked
     requires { ⌜ i < 2 ^ 40 ⌝ }
     requires { ⌜ fewAt train (setsOf (tableOf (now links) (now lengths) (now sets) (now elevs) (now headings) (now limits) (now codes) (now values) (now pool) (now regions))) i ≡ true ⌝ }
-    ensures { λ r. ⌜ r ≡ walked train (tableOf (now (links .entry)) (now (lengths .entry)) (now (sets .entry)) (now (elevs .entry)) (now (headings .entry)) (now (limits .entry)) (now (codes .entry)) (now (values .entry)) (now (pool .entry)) (now (regions .entry))) at i ⌝ }
+    ensures { λ r. ⌜ r ≡ walked train (own .0) (tableOf (now (links .entry)) (now (lengths .entry)) (now (sets .entry)) (now (elevs .entry)) (now (headings .entry)) (now (limits .entry)) (now (codes .entry)) (now (values .entry)) (now (pool .entry)) (now (regions .entry))) at i ⌝ }
 {
     let l = link_numbers(links, i);
     let length = Length(column::floats::get(lengths, i));
     let end = length.0 + at.link.0;
-    let laid = link_finite(sets, codes, values, limits, i, at.link, train.length, train);
+    let laid = link_finite(sets, codes, values, limits, i, at.link, own, train);
     let grade = at.grade;
     let first = l.elevs_first as usize;
     let count = l.elevs_count as usize;
@@ -77,7 +78,7 @@ fn walk_link(
     }
 }
 
-// Question 8 of a list of links: the first that fails.
+// Question 8 of a list of links, for a train of the length `own`: the first that fails.
 pub fn sums_question(
     at: Front,
     list: &[u32],
@@ -91,10 +92,11 @@ pub fn sums_question(
     values: &[f64],
     pool: &[f64],
     regions: &[u32],
+    own: Length,
     train: TrainParams,
 ) -> Judged
     requires { ⌜ every (fewAt train (setsOf (tableOf (now links) (now lengths) (now sets) (now elevs) (now headings) (now limits) (now codes) (now values) (now pool) (now regions)))) (now list) ≡ true ⌝ }
-    ensures { λ r. ⌜ r ≡ firstNo (spec.sumsFrom train (tableOf (now (links .entry)) (now (lengths .entry)) (now (sets .entry)) (now (elevs .entry)) (now (headings .entry)) (now (limits .entry)) (now (codes .entry)) (now (values .entry)) (now (pool .entry)) (now (regions .entry))) at (now (list .entry))) ⌝ }
+    ensures { λ r. ⌜ r ≡ firstNo (spec.sumsFrom train (own .0) (tableOf (now (links .entry)) (now (lengths .entry)) (now (sets .entry)) (now (elevs .entry)) (now (headings .entry)) (now (limits .entry)) (now (codes .entry)) (now (values .entry)) (now (pool .entry)) (now (regions .entry))) at (now (list .entry))) ⌝ }
 {
     let mut front = at;
     let mut k = 0;
@@ -112,6 +114,7 @@ pub fn sums_question(
             values,
             pool,
             regions,
+            own,
             train,
         );
         if !w.finite {

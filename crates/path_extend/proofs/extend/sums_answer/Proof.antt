@@ -34,7 +34,7 @@ returns c =
     let l = columns (a .offsets .now) (a .numbers .now) (a .grades .now) (a .curves .now) (a .speeds .now) (a .powers .now) (a .districts .now) in
     let t = tableOf (a .links .now) (a .lengths .now) (a .sets .now) (a .elevs .now) (a .headings .now) (a .limits .now) (a .codes .now) (a .values .now) (a .pool .now) (a .regions .now) in
     let ns = a .list .now in
-    sym (sums-8 (a .train) t ns (a .p) l (c .before .before .asked-each .ensures ∙ ap (askEach 8) (c .before .before .before .sums-question .ensures ∙ ap (λ (f : Front). firstNo (sumsFrom (a .train) t f ns)) (c .before .before .before .before .start-front .ensures ∙ front-start (a .train) t ns (a .p) l (c .before .before .before .before .before .before .before .before .before .before .before .before .before .before .before .before .before .before .before .before .before .before .before .pre .0)))) (c .if1 .taken))
+    sym (sums-8 (a .train) (a .own .0) t ns (a .p) l (c .before .before .asked-each .ensures ∙ ap (askEach 8) (c .before .before .before .sums-question .ensures ∙ ap (λ (f : Front). firstNo (sumsFrom (a .train) (a .own .0) t f ns)) (c .before .before .before .before .start-front .ensures ∙ front-start (a .train) t ns (a .p) l (c .before .before .before .before .before .before .before .before .before .before .before .before .before .before .before .before .before .before .before .before .before .before .before .pre .0)))) (c .if1 .taken))
 
 records-fit-requires : tie.Need-records-fit-requires
 records-fit-requires c κs =
@@ -53,7 +53,7 @@ returns-2 c =
     let l = columns (a .offsets .now) (a .numbers .now) (a .grades .now) (a .curves .now) (a .speeds .now) (a .powers .now) (a .districts .now) in
     let t = tableOf (a .links .now) (a .lengths .now) (a .sets .now) (a .elevs .now) (a .headings .now) (a .limits .now) (a .codes .now) (a .values .now) (a .pool .now) (a .regions .now) in
     let ns = a .list .now in
-    c .asked .ensures ∙ ap (ask 9) (c .before .records-fit .ensures) ∙ sym (sums-9 (a .train) t ns (a .p) l (c .before .before .before .before .asked-each .ensures ∙ ap (askEach 8) (c .before .before .before .before .before .sums-question .ensures ∙ ap (λ (f : Front). firstNo (sumsFrom (a .train) t f ns)) (c .before .before .before .before .before .before .start-front .ensures ∙ front-start (a .train) t ns (a .p) l (c .before .before .before .before .before .before .before .before .before .before .before .before .before .before .before .before .before .before .before .before .before .before .before .before .before .pre .0)))) (c .before .before .if1 .left))
+    c .asked .ensures ∙ ap (ask 9) (c .before .records-fit .ensures) ∙ sym (sums-9 (a .train) (a .own .0) t ns (a .p) l (c .before .before .before .before .asked-each .ensures ∙ ap (askEach 8) (c .before .before .before .before .before .sums-question .ensures ∙ ap (λ (f : Front). firstNo (sumsFrom (a .train) (a .own .0) t f ns)) (c .before .before .before .before .before .before .start-front .ensures ∙ front-start (a .train) t ns (a .p) l (c .before .before .before .before .before .before .before .before .before .before .before .before .before .before .before .before .before .before .before .before .before .before .before .before .before .pre .0)))) (c .before .before .if1 .left))
 
 pub sums-answer-spec : {M : Type 1} → statement M
 sums-answer-spec =

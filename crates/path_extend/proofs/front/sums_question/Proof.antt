@@ -13,10 +13,10 @@ use Rattle.path_extend.proofs.front.sums_question.Statement.{statement}
 use Rattle.path_extend.proofs.front.sums_question.Tie as tie
 
 abbrev Inv-loop : tie.InvT-loop
-Inv-loop list links lengths sets elevs headings limits codes values pool regions train front₀ k₀ front k = firstNoFrom k (sumsFrom train (tableOf links lengths sets elevs headings limits codes values pool regions) front (drop k list)) ≡ firstNo (sumsFrom train (tableOf links lengths sets elevs headings limits codes values pool regions) front₀ list)
+Inv-loop list links lengths sets elevs headings limits codes values pool regions own train front₀ k₀ front k = firstNoFrom k (sumsFrom train (own .0) (tableOf links lengths sets elevs headings limits codes values pool regions) front (drop k list)) ≡ firstNo (sumsFrom train (own .0) (tableOf links lengths sets elevs headings limits codes values pool regions) front₀ list)
 
 abbrev μ-loop : tie.MeasureT-loop
-μ-loop list links lengths sets elevs headings limits codes values pool regions train front₀ k₀ front k = length list - k
+μ-loop list links lengths sets elevs headings limits codes values pool regions own train front₀ k₀ front k = length list - k
 
 loop-holds : tie.Need-loop-holds Inv-loop μ-loop
 loop-holds c = refl
@@ -42,7 +42,7 @@ returns c =
     let a = c .before .before .before .before .before .before .before .before .before .before .before .before .before .before .before .before .before .args in
     let t = tableOf (a .links .now) (a .lengths .now) (a .sets .now) (a .elevs .now) (a .headings .now) (a .limits .now) (a .codes .now) (a .values .now) (a .pool .now) (a .regions .now) in
     let k = c .before .before .before .before .before .loop .k in
-    sym (sums-fail (a .train) t (c .before .before .before .before .before .loop .front) (a .list .now) k (c .before .before .before .before .loop-test .taken) (c .before .before .walk-link .ensures) (c .if1 .taken)) ∙ c .before .before .before .before .before .loop .inv
+    sym (sums-fail (a .train) (a .own .0) t (c .before .before .before .before .before .loop .front) (a .list .now) k (c .before .before .before .before .loop-test .taken) (c .before .before .walk-link .ensures) (c .if1 .taken)) ∙ c .before .before .before .before .before .loop .inv
 
 add-k : tie.Need-add-k Inv-loop μ-loop
 add-k c = record { fits = omega (arith, c .before .before .before .before .before .loop-test .taken, c .before .before .before .before .before .before .before .before .before .before .before .before .before .before .before .before .before .before .good) }
@@ -55,14 +55,14 @@ loop-again c =
     let a = c .before .before .before .before .before .before .before .before .before .before .before .before .before .before .before .before .before .before .args in
     let t = tableOf (a .links .now) (a .lengths .now) (a .sets .now) (a .elevs .now) (a .headings .now) (a .limits .now) (a .codes .now) (a .values .now) (a .pool .now) (a .regions .now) in
     let k = c .before .before .before .before .before .before .loop .k in
-    sym (sums-pass (a .train) t (c .before .before .before .before .before .before .loop .front) (a .list .now) k (c .before .before .before .before .before .loop-test .taken) (c .before .before .before .walk-link .ensures) (c .before .if1 .left)) ∙ c .before .before .before .before .before .before .loop .inv
+    sym (sums-pass (a .train) (a .own .0) t (c .before .before .before .before .before .before .loop .front) (a .list .now) k (c .before .before .before .before .before .loop-test .taken) (c .before .before .before .walk-link .ensures) (c .before .if1 .left)) ∙ c .before .before .before .before .before .before .loop .inv
 
 returns-2 : tie.Need-returns-2 Inv-loop μ-loop
 returns-2 c =
     let a = c .before .before .before .before .before .before .before .before .before .before .before .before .before .args in
     let t = tableOf (a .links .now) (a .lengths .now) (a .sets .now) (a .elevs .now) (a .headings .now) (a .limits .now) (a .codes .now) (a .values .now) (a .pool .now) (a .regions .now) in
     let k = c .before .loop .k in
-    sym (sums-end (a .train) t (c .before .loop .front) (a .list .now) k (c .loop-test .left)) ∙ c .before .loop .inv
+    sym (sums-end (a .train) (a .own .0) t (c .before .loop .front) (a .list .now) k (c .loop-test .left)) ∙ c .before .loop .inv
 
 pub sums-question-spec : {M : Type 1} → statement M
 sums-question-spec =

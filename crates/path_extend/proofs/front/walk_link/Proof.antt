@@ -48,7 +48,7 @@ returns : tie.Need-returns
 returns c =
     let a = c .before .before .before .before .before .before .before .before .before .before .before .before .before .before .before .before .before .before .before .before .before .before .before .before .before .before .before .before .before .before .before .args in
     let t = tableOf (a .links .now) (a .lengths .now) (a .sets .now) (a .elevs .now) (a .headings .now) (a .limits .now) (a .codes .now) (a .values .now) (a .pool .now) (a .regions .now) in
-    walked-link (a .train) t (a .at) (a .i) (c .before .before .before .before .before .before .before .before .before .before .before .before .before .before .before .before .before .before .before .before .link-numbers .ensures) (c .before .before .before .before .before .before .before .before .before .before .before .before .before .before .before .before .before .before .before .get .ensures) (c .before .before .before .before .before .before .before .before .before .before .before .before .before .before .before .before .link-finite .ensures) (c .before .before .before .before .before .before .before .before .before .before .before .walk-stretches .ensures) (c .before .before .before .before .before .before .before .walk-stretches2 .ensures) (c .before .before .before .before .powers-finite .ensures) (c .before .before .before .is-finite .ensures)
+    walked-link (a .train) (a .own .0) t (a .at) (a .i) (c .before .before .before .before .before .before .before .before .before .before .before .before .before .before .before .before .before .before .before .before .link-numbers .ensures) (c .before .before .before .before .before .before .before .before .before .before .before .before .before .before .before .before .before .before .before .get .ensures) (c .before .before .before .before .before .before .before .before .before .before .before .before .before .before .before .before .link-finite .ensures) (c .before .before .before .before .before .before .before .before .before .before .before .walk-stretches .ensures) (c .before .before .before .before .before .before .before .walk-stretches2 .ensures) (c .before .before .before .before .powers-finite .ensures) (c .before .before .before .is-finite .ensures)
 
 pub walk-link-spec : {M : Type 1} → statement M
 walk-link-spec =
