@@ -16,7 +16,7 @@ use Rattle.ieee.proofs.Sum.{finite-real}
 use Rattle.speed.specs.Points.{point}
 use Rattle.speed_laws.proofs.Changes.{passes}
 use Rattle.link.specs.declared.train_params.TrainParams.{TrainParams}
-use Rattle.link.specs.Train.{topSpeed}
+use Rattle.link.specs.Train.{lengthOf, topSpeed}
 use Rattle.path.specs.Sound.{trainFinite}
 use Rattle.book.specs.Book.{Call, Book, newBook, enterCall}
 use Rattle.book.specs.Book.Call.{extend, clear, reindex, finish}
@@ -55,7 +55,7 @@ new-claims train fin =
 
 pub call-claims : (train : TrainParams) → trainFinite train ≡ true → (call : Call) (b : Book) → Claims train b → GoodCall train call b → Claims train (enterCall train call b)
 unfolding enterCall
-call-claims train fin (extend t ns) b c g = links-claims train fin t b ns c g
+call-claims train fin (extend t ns) b c g = links-claims train fin (lengthOf train) (train-good train fin .length-from-zero) t b ns c g
 call-claims train fin (clear x) b c g = drop-claims train x b c g
 call-claims train fin (reindex new) b c g = c
 call-claims train fin finish b c g = c

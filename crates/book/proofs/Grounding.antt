@@ -215,16 +215,16 @@ last-at count ps rs ends g =
     let i : length rs - 1 ≡ total count ps = omega (arith, g .counted) in
     ap (coeff.offsetAt rs) i ∙ g .last
 
-module _ (train : TrainParams) (t : LinkTable) (whole : TableF64 t) where
+module _ (train : TrainParams) (own : Float) (t : LinkTable) (whole : TableF64 t) where
   -- one link
-  join-ready : (path : Path) (b : Book) (n : ℕ) → wellFormed t n ≡ true → Ready path b → Ready (join train t path n) (enterLink train t b n)
+  join-ready : (path : Path) (b : Book) (n : ℕ) → wellFormed t n ≡ true → Ready path b → Ready (join train t path n) (enterLink train own t b n)
   unfolding join
   join-ready path b n passed r =
       record {
         still-open = r .still-open;
         some-point = unfold joinPoint in some-after (set (path .links) (length (path .links) - 1) _) _;
         end-free = unfold joinPoint in free-after (set (path .links) (length (path .links) - 1) _) _ refl refl refl;
-        at-ends = joined-ends train t b (path .links) n (r .some-point) (r .at-ends);
+        at-ends = joined-ends train own t b (path .links) n (r .some-point) (r .at-ends);
         grounded = record { grades = kind false (path .grades) (r .grounded .grades); curves = kind true (path .curves) (r .grounded .curves) };
       }
     where
@@ -236,13 +236,13 @@ module _ (train : TrainParams) (t : LinkTable) (whole : TableF64 t) where
 
       kind : (curves : Bool) (rs : List PathResCoeff) → Begun (countOf curves) (path .links) rs (b .ends) (spare (path .finished))
           → Begun (countOf curves) (joinPoint (t .links) (t .lengths) (path .links) n)
-          (joinRecords curves train (risesOf t) (t .headings) (standsAt (lastCoeff (path .grades))) rs n) (enterLink train t b n .ends) (spare (path .finished))
-      kind curves rs g = rw (one, base) (join-begun curves train t b (path .links) rs n whole passed (r .some-point) (r .end-free) (r .at-ends) (rw one at g))
+          (joinRecords curves train (risesOf t) (t .headings) (standsAt (lastCoeff (path .grades))) rs n) (enterLink train own t b n .ends) (spare (path .finished))
+      kind curves rs g = rw (one, base) (join-begun curves train own t b (path .links) rs n whole passed (r .some-point) (r .end-free) (r .at-ends) (rw one at g))
 
-  all-ready : (path : Path) (b : Book) (ns : List ℕ) → GoodLinks train t b ns → Ready path b → Ready (joinAll train t path ns) (enterLinks train t b ns)
+  all-ready : (path : Path) (b : Book) (ns : List ℕ) → GoodLinks train own t b ns → Ready path b → Ready (joinAll train t path ns) (enterLinks train own t b ns)
   unfolding joinAll enterLinks
   all-ready path b [] g r = r
-  all-ready path b (n ∷ ns) g r = all-ready (join train t path n) (enterLink train t b n) ns (g .1) (join-ready path b n (g .0 .formed) r)
+  all-ready path b (n ∷ ns) g r = all-ready (join train t path n) (enterLink train own t b n) ns (g .1) (join-ready path b n (g .0 .formed) r)
 
   -- another net value moves no record
   started-grounded : (path : Path) (b : Book) (ns : List ℕ) → Grounded path b → Grounded (started t path ns) b
@@ -256,8 +256,8 @@ module _ (train : TrainParams) (t : LinkTable) (whole : TableF64 t) where
       }
 
   -- the listed links
-  pub joined-grounded : (path : Path) (b : Book) (ns : List ℕ) → path .finished ≡ false → endCountsZero (path .links) ≡ true → 0 < length (b .ends) → GoodLinks train t b ns
-      → Matched path b → Grounded path b → Grounded (joinAll train t (started t path ns) ns) (enterLinks train t b ns)
+  pub joined-grounded : (path : Path) (b : Book) (ns : List ℕ) → path .finished ≡ false → endCountsZero (path .links) ≡ true → 0 < length (b .ends) → GoodLinks train own t b ns
+      → Matched path b → Grounded path b → Grounded (joinAll train t (started t path ns) ns) (enterLinks train own t b ns)
   unfolding started
   joined-grounded path b ns still-open free some good m g =
       all-ready (started t path ns) b ns good

@@ -13,7 +13,7 @@ use Rattle.link.specs.declared.train_params.TrainParams.{TrainParams}
 use Rattle.link.specs.declared.speed_set.SpeedSet.{SpeedSet}
 use Rattle.link.specs.declared.speed_set.SetFound.{SetFound}
 use Rattle.link.specs.declared.speed_set.SetFound.the-variants.{Found, Missing}
-use Rattle.link.specs.Train.{lengthOf, topSpeed}
+use Rattle.link.specs.Train.{topSpeed}
 use Rattle.link.specs.Condition.{applies}
 use Rattle.link.specs.Table.{LinkTable, linkAt, setAt, setFor, conditionsOf, limitsOf}
 use Rattle.link.proofs.Known.{formed, set-formed, limits-formed}
@@ -25,7 +25,7 @@ use Rattle.book.specs.Claims.{postedAt, Offset, Claims}
 use Rattle.book.proofs.Placed.{sum-offset, AllEnter, all-enter}
 use Rattle.book.proofs.Ends.{last-offset, first-last, first-more, some-more, offsets-more, rising-more}
 use Rattle.book.proofs.Entered.{bookWith, same-limits, limits-enter}
-use Rattle.book.proofs.FiniteTrain.{TrainGood, train-good}
+use Rattle.book.proofs.FiniteTrain.{train-good}
 
 -- ---- the limits of a link
 
@@ -43,26 +43,26 @@ was-found train codes values (Found r) s e = pick (applies train (conditionsOf c
     pick true e = e
     pick false e = absurd (false≢true (ap isFound e))
 
-module _ (train : TrainParams) (good : TrainGood train) where
-  tail-from-zero : (s : SpeedSet) → T (Ieee.le +0 (tailOf (lengthOf train) s))
+module _ (train : TrainParams) (own : Float) (above : T (Ieee.le +0 own)) where
+  tail-from-zero : (s : SpeedSet) → T (Ieee.le +0 (tailOf own s))
   tail-from-zero s = pick (eqb (s .«is_head_end») 1)
     where
-      pick : (b : Bool) → T (Ieee.le +0 (cond b +0 (lengthOf train)))
+      pick : (b : Bool) → T (Ieee.le +0 (cond b +0 own))
       pick true = le-refl +0 tt
-      pick false = good .length-from-zero
+      pick false = above
 
   -- they may enter a path that begins at o
-  link-enters : (t : LinkTable) (base : Float) (n : ℕ) (o : Float) → Offset base → T (Ieee.le o base) → GoodLink train t base n → AllEnter (topSpeed train) o (enteringAt train (lengthOf train) (setsOf t) base n)
+  link-enters : (t : LinkTable) (base : Float) (n : ℕ) (o : Float) → Offset base → T (Ieee.le o base) → GoodLink train own t base n → AllEnter (topSpeed train) o (enteringAt train own (setsOf t) base n)
   unfolding enteringAt finiteAt
   link-enters t base n o at h g = pick (setOf train (setsOf t) n) refl (g .sums)
     where
-      pick : (set : SetFound) → setOf train (setsOf t) n ≡ set → limitsFinite (topSpeed train) base (lengthOf train) (t .limits) set ≡ true
-          → AllEnter (topSpeed train) o (entering base (lengthOf train) (t .limits) set)
+      pick : (set : SetFound) → setOf train (setsOf t) n ≡ set → limitsFinite (topSpeed train) base own (t .limits) set ≡ true
+          → AllEnter (topSpeed train) o (entering base own (t .limits) set)
       pick Missing e f = unfold entering in tt
       pick (Found s) e f =
           let found = was-found train (t .codes) (t .values) (setFor (setAt (t .sets) n) (train .«train_type»)) s (unfold applyingSet in e) in
           let each-formed = limits-formed (t .codes) (t .values) (t .limits) s (set-formed t n (train .«train_type») s (g .formed) found) in
-          unfold entering in all-enter base (tailOf (lengthOf train) s) at (tail-from-zero s) (topSpeed train) o h (limitsOf (t .limits) s) each-formed (unfold limitsFinite in f)
+          unfold entering in all-enter base (tailOf own s) at (tail-from-zero s) (topSpeed train) o h (limitsOf (t .limits) s) each-formed (unfold limitsFinite in f)
 
 -- ---- a link
 
@@ -80,22 +80,22 @@ more-ends train b e k l c =
       speeds = λ x h. same-limits train b (b .ends ++ e ∷ []) (b .points) x (postedAt (b .points) x) (c .speeds x (subst (λ (o : Float). T (Ieee.le o x)) same h));
     }
 
-pub link-claims : (train : TrainParams) → trainFinite train ≡ true → (t : LinkTable) (b : Book) (n : ℕ) → Claims train b → GoodLink train t (lastEnd (b .ends)) n → Claims train (enterLink train t b n)
+pub link-claims : (train : TrainParams) → trainFinite train ≡ true → (own : Float) → T (Ieee.le +0 own) → (t : LinkTable) (b : Book) (n : ℕ) → Claims train b → GoodLink train own t (lastEnd (b .ends)) n → Claims train (enterLink train own t b n)
 unfolding enterLink
-link-claims train fin t b n c g =
+link-claims train fin own above t b n c g =
     let good = train-good train fin in
     let base = lastEnd (b .ends) in
     let long = linkAt t n .length in
-    let limits = enteringAt train (lengthOf train) (setsOf t) base n in
+    let limits = enteringAt train own (setsOf t) base n in
     let at : Offset base = last-offset (b .ends) (c .some-end) (c .ends-good) in
     let from = first-last (b .ends) (c .some-end) (c .ends-good) (c .ends-rise) in
     let turn : long ⊕ base ≡ base ⊕ long = add-comm binary64 long base in
     let end = sum-offset long base (lt→le +0 long (of-true (formed t n (g .formed) .above))) at (of-true (g .end-finite)) .0 in
     more-ends train (bookWith (b .ends) (b .limits ++ limits) (layAll (b .points) (lowering (topSpeed train) limits))) (base ⊕ long) (subst Offset turn end)
     (subst (λ (e : Float). T (Ieee.lt base e)) turn (of-true (g .beyond)))
-    (limits-enter train good limits b (link-enters train good t base n (firstEnd (b .ends)) at from g) c)
+    (limits-enter train good limits b (link-enters train own above t base n (firstEnd (b .ends)) at from g) c)
 
-pub links-claims : (train : TrainParams) → trainFinite train ≡ true → (t : LinkTable) (b : Book) (ns : List ℕ) → Claims train b → GoodLinks train t b ns → Claims train (enterLinks train t b ns)
+pub links-claims : (train : TrainParams) → trainFinite train ≡ true → (own : Float) → T (Ieee.le +0 own) → (t : LinkTable) (b : Book) (ns : List ℕ) → Claims train b → GoodLinks train own t b ns → Claims train (enterLinks train own t b ns)
 unfolding enterLinks
-links-claims train fin t b [] c g = c
-links-claims train fin t b (n ∷ ns) c g = links-claims train fin t (enterLink train t b n) ns (link-claims train fin t b n c (g .0)) (g .1)
+links-claims train fin own above t b [] c g = c
+links-claims train fin own above t b (n ∷ ns) c g = links-claims train fin own above t (enterLink train own t b n) ns (link-claims train fin own above t b n c (g .0)) (g .1)

@@ -13,7 +13,6 @@ use borrow.Author.Tests.{eqb-true}
 use Rattle.ieee.specs.Number.{+0, _⊕_}
 use Rattle.ieee.proofs.Sum.{add-comm}
 use Rattle.ieee.proofs.Round.{split}
-use Rattle.column.proofs.Filling.{getD-within}
 use Rattle.lookup.specs.declared.path_res_coeff.PathResCoeff.{PathResCoeff}
 use Rattle.lookup.specs.Coeff as coeff
 use Rattle.lookup.specs.Coeff.{resCoeff, noCoeff, standsAt, netOf}
@@ -32,6 +31,7 @@ use Rattle.path_join.specs.Joined.{joinPoint, joinRecords}
 use Rattle.book.specs.Book.{Book, lastEnd, enterLink}
 use Rattle.book.specs.Demand.{TableF64}
 use Rattle.book.proofs.Matching.{Begun}
+use Rattle.book.proofs.LinkEnds.{last-end}
 use Rattle.book.proofs.Ending.{records-many, records-end}
 use Rattle.path.proofs.Lasts.{total-append}
 
@@ -165,11 +165,11 @@ end-counts true ps e = let q = endPoint ps in eqb-true (curveCount q) 0 (and-bot
 end-counts false ps e = let q = endPoint ps in eqb-true (gradeCount q) 0 (and-both (eqb (gradeCount q) 0) _ e .0)
 
 -- its records begin at its end, and the one after them stands at the next end
-pub join-begun : (curves : Bool) (train : TrainParams) (t : LinkTable) (b : Book) (ps : List LinkPoint) (rs : List PathResCoeff) (n : ℕ)
+pub join-begun : (curves : Bool) (train : TrainParams) (own : Float) (t : LinkTable) (b : Book) (ps : List LinkPoint) (rs : List PathResCoeff) (n : ℕ)
     → TableF64 t → wellFormed t n ≡ true → 0 < length ps → endCountsZero ps ≡ true → map offsetOf ps ≡ b .ends → Begun (countOf curves) ps rs (b .ends) 1
-    → Begun (countOf curves) (joinPoint (t .links) (t .lengths) ps n) (joinRecords curves train (risesOf t) (t .headings) (lastEnd (b .ends)) rs n) (enterLink train t b n .ends) 1
+    → Begun (countOf curves) (joinPoint (t .links) (t .lengths) ps n) (joinRecords curves train (risesOf t) (t .headings) (lastEnd (b .ends)) rs n) (enterLink train own t b n .ends) 1
 unfolding joinPoint joinRecords enterLink linkAt
-join-begun curves train t b ps rs n whole passed some free at-ends g =
+join-begun curves train own t b ps rs n whole passed some free at-ends g =
     let base = lastEnd (b .ends) in
     let long = lengthAt (t .lengths) n in
     let o = offsetOf (endPoint ps) in
@@ -185,22 +185,13 @@ join-begun curves train t b ps rs n whole passed some free at-ends g =
 
 -- ---- its link points
 
-end-offset : (ps : List LinkPoint) (ends : List Float) → 0 < length ps → map offsetOf ps ≡ ends → offsetOf (endPoint ps) ≡ lastEnd ends
-end-offset ps ends some e =
-    let i = length ps - 1 in
-    let j : length (map offsetOf ps) - 1 ≡ i = omega (arith, length-map ps offsetOf) in
-    sym (List·getD-map offsetOf ps i noLinkPoint)
-    ∙ getD-within (map offsetOf ps) i +0 nan (omega (arith, length-map ps offsetOf))
-    ∙ ap (λ (k : ℕ). getD (map offsetOf ps) k nan) (sym j)
-    ∙ ap lastEnd e
-
-pub joined-ends : (train : TrainParams) (t : LinkTable) (b : Book) (ps : List LinkPoint) (n : ℕ) → 0 < length ps → map offsetOf ps ≡ b .ends
-    → map offsetOf (joinPoint (t .links) (t .lengths) ps n) ≡ enterLink train t b n .ends
+pub joined-ends : (train : TrainParams) (own : Float) (t : LinkTable) (b : Book) (ps : List LinkPoint) (n : ℕ) → 0 < length ps → map offsetOf ps ≡ b .ends
+    → map offsetOf (joinPoint (t .links) (t .lengths) ps n) ≡ enterLink train own t b n .ends
 unfolding joinPoint enterLink linkAt
-joined-ends train t b ps n some e =
+joined-ends train own t b ps n some e =
     let o = offsetOf (endPoint ps) in
     let long = lengthAt (t .lengths) n in
     let number = numbersOf (t .links) n .«idx_curr» in
     let p = linkPoint o (gradesIn (t .links) n) (curvesIn (t .links) n) (powersIn (t .links) n) number in
     map-append offsetOf (set ps (length ps - 1) p) (linkPoint (long ⊕ o) 0 0 0 number ∷ [])
-    ∙ ap₂ (λ (l : List Float) (x : Float). l ++ x ∷ []) (map-set-same offsetOf ps (length ps - 1) p noLinkPoint refl ∙ e) (add-comm binary64 long o ∙ ap (λ (x : Float). x ⊕ long) (end-offset ps (b .ends) some e))
+    ∙ ap₂ (λ (l : List Float) (x : Float). l ++ x ∷ []) (map-set-same offsetOf ps (length ps - 1) p noLinkPoint refl ∙ e) (add-comm binary64 long o ∙ ap (λ (x : Float). x ⊕ long) (sym (last-end ps (b .ends) e some)))

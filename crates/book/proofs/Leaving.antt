@@ -76,7 +76,7 @@ module _ (train : TrainParams) (x : Float) (path : Path) (b : Book) (c : Claims 
   links-go : (d : ℕ) → dropCount x (path .links) ≡ d → Matched (withoutLinks d path) (dropBehind x b)
   unfolding dropBehind withoutLinks
   links-go d e =
-      let less : d < length (path .links) = omega (arith, e, drop-less x (path .links) (omega (arith, same-count path b m, c .some-end))) in
+      let less : d < length (path .links) = omega (arith, e, drop-less x (path .links) (omega (arith, same-count (path .links) (b .ends) (m .links), c .some-end))) in
       let ends = kept-ends d e in
       let first : offsetOf (linkPointAt (path .links) d) ≡ firstEnd (dropEnds x (b .ends)) =
       sym (end-offset (drop d (path .links)) 0 (omega (arith, less, length-drop d (path .links))) ∙ ap offsetOf (getD-drop d (path .links) 0 _) ∙ ap (λ (k : ℕ). offsetOf (linkPointAt (path .links) k)) (add-zero d))

@@ -6,6 +6,7 @@ use mathlib.Core.List.{List, [], _∷_}
 use lib.Dec.{eqb}
 use borrow.Author.Tests.{eqb-true, eqb-false, not-true}
 use Rattle.link.specs.declared.train_params.TrainParams.{TrainParams}
+use Rattle.link.specs.Train.{lengthOf}
 use Rattle.path.specs.declared.path_tpc.PathTpc.{PathTpc}
 use Rattle.path.specs.declared.path_tpc.Answer.{Answer}
 use Rattle.path.specs.Records.{Columns, Path, fitsGrades, fitsCurves, pathOf, columnsOf, recordOf}
@@ -113,7 +114,7 @@ module _ (train : TrainParams) (fin : trainFinite train ≡ true) where
       let ends = before p c (g .is-finite) (g .is-sound) .own .end-zero in (
         joined-matched train t path b ns (g .claims .some-end) (g .matched),
         good,
-        joined-grounded train t f64 path b ns (opened p c (settled train t ns p c h .still-open)) ends (g .claims .some-end) good (g .matched) (g .grounded),
+        joined-grounded train (lengthOf train) t f64 path b ns (opened p c (settled train t ns p c h .still-open)) ends (g .claims .some-end) good (g .matched) (g .grounded),
       ))
       (λ h. stays-extend train (enterCall train (extend t ns) b) t ns p c h) g
   step-goes (clear x) p c b f64 g =

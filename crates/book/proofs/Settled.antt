@@ -34,7 +34,8 @@ use Rattle.book.proofs.Good.{GoodLink, GoodLinks, GoodClear}
 use Rattle.book.proofs.Matching.{Matched}
 use Rattle.book.proofs.Ends.{some-more}
 use Rattle.book.proofs.LinkEnds.{same-count, first-end, last-end}
-use Rattle.book.proofs.Entering.{join-matched, started-matched}
+use Rattle.book.proofs.Laying.{joined-ends}
+use Rattle.book.proofs.Entering.{started-matched}
 use Rattle.path_extend.proofs.Fronts.{front-join}
 
 -- ---- a path that is sound
@@ -58,9 +59,9 @@ clear-good x p c b m h =
     let range = and-both (Ieee.le (offsetOf (linkPointAt (path .links) 0)) x) _ (two .0) in
     let some = has-link p c (judged-done (finite x) p c refl (one .0) .2) in
     record {
-      not-before = ap (λ (o : Float). Ieee.le o x) (first-end path b m some) ∙ range .0;
-      not-after = ap (λ (o : Float). Ieee.le x o) (last-end path b m some) ∙ range .1;
-      two = omega (arith, same-count path b m, count-links p c, leb-true 2 (p .«link_count») (three .0));
+      not-before = ap (λ (o : Float). Ieee.le o x) (first-end (path .links) (b .ends) (m .links) some) ∙ range .0;
+      not-after = ap (λ (o : Float). Ieee.le x o) (last-end (path .links) (b .ends) (m .links) some) ∙ range .1;
+      two = omega (arith, same-count (path .links) (b .ends) (m .links), count-links p c, leb-true 2 (p .«link_count») (three .0));
     }
 
 -- ---- `extend`
@@ -75,42 +76,47 @@ allTrue l = every (λ b. b) l
 all-true : (l : List Bool) → askEach 8 (firstNo l) .number ≡ 0 → allTrue l ≡ true
 all-true l h = none-fails (λ b. b) l (ap firstNo (map-same l) ∙ each-done 7 (firstNo l) h)
 
-module _ (train : TrainParams) (t : LinkTable) where
-  link-good : (at : Front) (base : Float) (n : ℕ) → at .link .0 ≡ base → wellFormed t n ≡ true → sumsFinite train t at n ≡ true → GoodLink train t base n
+-- a path whose link points stand at the ends stands at the last one
+front-at : (path : Path) (b : Book) → map offsetOf (path .links) ≡ b .ends → 0 < length (path .links) → frontOf path .link .0 ≡ lastEnd (b .ends)
+unfolding frontOf
+front-at path b ends point = sym (last-end (path .links) (b .ends) ends point)
+
+module _ (train : TrainParams) (own : Float) (t : LinkTable) where
+  link-good : (at : Front) (base : Float) (n : ℕ) → at .link .0 ≡ base → wellFormed t n ≡ true → sumsFinite train own t at n ≡ true → GoodLink train own t base n
   unfolding sumsFinite linkAt
   link-good at base n same w e =
-      let a = and-both (finiteAt train (lengthOf train) (setsOf t) (at .link .0) n) _ e in
+      let a = and-both (finiteAt train own (setsOf t) (at .link .0) n) _ e in
       let b = and-both (finite (endAt t at n) && Ieee.lt (at .link .0) (endAt t at n)) _ (a .1) in
       let d = and-both (finite (endAt t at n)) _ (b .0) in
-      subst (λ (o : Float). GoodLink train t o n) same (record { formed = w; sums = a .0; end-finite = d .0; beyond = d .1 })
+      subst (λ (o : Float). GoodLink train own t o n) same (record { formed = w; sums = a .0; end-finite = d .0; beyond = d .1 })
 
-  links-good : (path : Path) (b : Book) (ns : List ℕ) → 0 < length (b .ends) → Matched path b
+  links-good : (path : Path) (b : Book) (ns : List ℕ) → 0 < length (b .ends) → map offsetOf (path .links) ≡ b .ends
       → every (wellFormed t) ns ≡ true
-      → allTrue (sumsFrom train t (frontOf path) ns) ≡ true
-      → GoodLinks train t b ns
-  unfolding every sumsFrom
-  links-good path b [] some m w e = tt
-  links-good path b (n ∷ ns) some m w e =
+      → allTrue (sumsFrom train own t (frontOf path) ns) ≡ true
+      → GoodLinks train own t b ns
+  unfolding every sumsFrom join
+  links-good path b [] some ends w e = tt
+  links-good path b (n ∷ ns) some ends w e =
       let f = and-both (wellFormed t n) _ w in
-      let s = and-both (sumsFinite train t (frontOf path) n) _ e in
-      let at : frontOf path .link .0 ≡ lastEnd (b .ends) = unfold frontOf in sym (last-end path b m (omega (arith, same-count path b m, some))) in (
-        link-good (frontOf path) (lastEnd (b .ends)) n at (f .0) (s .0),
-        links-good (join train t path n) (enterLink train t b n) ns (unfold enterLink in some-more (b .ends) _) (join-matched train t path b n some m) (f .1)
-            (ap (λ (next : Front). allTrue (sumsFrom train t next ns)) (front-join train t path n) ∙ s .1),
+      let s = and-both (sumsFinite train own t (frontOf path) n) _ e in
+      let point : 0 < length (path .links) = omega (arith, same-count (path .links) (b .ends) ends, some) in (
+        link-good (frontOf path) (lastEnd (b .ends)) n (front-at path b ends point) (f .0) (s .0),
+        links-good (join train t path n) (enterLink train own t b n) ns (unfold enterLink in some-more (b .ends) _) (joined-ends train own t b (path .links) n point ends) (f .1)
+            (ap (λ (next : Front). allTrue (sumsFrom train own t next ns)) (front-join train t path n) ∙ s .1),
       )
 
-  pub extend-good : (ns : List ℕ) (p : PathTpc) (c : Columns) (b : Book) → Matched (pathOf p c) b → extendAnswer train t ns p c .number ≡ 0 → (trainFinite train ≡ true) × GoodLinks train t b ns
-  unfolding extendAnswer sumsAnswer
-  extend-good ns p c b m h =
-      let path = pathOf p c in
-      let listed = linksAnswer t (train .«train_type») (followed (t .links) (path .links) ns) ns in
-      let sums = sumsFrom train t (frontOf (started t path ns)) ns in
-      let one = turn-done (pathAnswer (trainFinite train) p c) (ask 3 (isOpen p) ∷ listed ∷ sumsAnswer train t ns p c ∷ []) h in
-      let three = first-done 2 (listed ∷ sumsAnswer train t ns p c ∷ []) (isOpen p) (one .1) in
-      let four = turn-done listed (sumsAnswer train t ns p c ∷ []) (three .1) in
-      let eight = turn-done (sumsAnswer train t ns p c) [] (four .1) in
-      let nine = turn-done (askEach 8 (firstNo sums)) (ask 9 (recordsFit train t ns p c) ∷ []) (eight .0) in
-      let judged = judged-done (trainFinite train) p c refl (one .0) in
-      let some = has-link p c (judged .2) in
-      let well = all-formed t ns (links-done t (train .«train_type») (followed (t .links) (path .links) ns) ns (four .0) .0) in
-      (judged .0, links-good (started t path ns) b ns (omega (arith, same-count path b m, some)) (started-matched t path b ns m) well (all-true sums (nine .0)))
+pub extend-good : (train : TrainParams) (t : LinkTable) (ns : List ℕ) (p : PathTpc) (c : Columns) (b : Book) → Matched (pathOf p c) b → extendAnswer train t ns p c .number ≡ 0 → (trainFinite train ≡ true) × GoodLinks train (lengthOf train) t b ns
+unfolding extendAnswer sumsAnswer
+extend-good train t ns p c b m h =
+    let path = pathOf p c in
+    let listed = linksAnswer t (train .«train_type») (followed (t .links) (path .links) ns) ns in
+    let sums = sumsFrom train (lengthOf train) t (frontOf (started t path ns)) ns in
+    let one = turn-done (pathAnswer (trainFinite train) p c) (ask 3 (isOpen p) ∷ listed ∷ sumsAnswer train (lengthOf train) t ns p c ∷ []) h in
+    let three = first-done 2 (listed ∷ sumsAnswer train (lengthOf train) t ns p c ∷ []) (isOpen p) (one .1) in
+    let four = turn-done listed (sumsAnswer train (lengthOf train) t ns p c ∷ []) (three .1) in
+    let eight = turn-done (sumsAnswer train (lengthOf train) t ns p c) [] (four .1) in
+    let nine = turn-done (askEach 8 (firstNo sums)) (ask 9 (recordsFit train t ns p c) ∷ []) (eight .0) in
+    let judged = judged-done (trainFinite train) p c refl (one .0) in
+    let some = has-link p c (judged .2) in
+    let well = all-formed t ns (links-done t (train .«train_type») (followed (t .links) (path .links) ns) ns (four .0) .0) in
+    (judged .0, links-good train (lengthOf train) t (started t path ns) b ns (omega (arith, same-count (path .links) (b .ends) (m .links), some)) (started-matched t path b ns m .links) well (all-true sums (nine .0)))

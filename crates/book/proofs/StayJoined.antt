@@ -142,24 +142,24 @@ placed-finite base (l ∷ ls) f g =
 
 -- ---- one link
 
--- what questions 4, 6 and 8 settle of a link that is joined where the path stands as `at` says
-pub record JoinedWell (train : TrainParams) (t : LinkTable) (at : Front) (n : ℕ) : Type 0 where
+-- what questions 4, 6 and 8 settle of a link that is joined where the path stands as `at` says, for a train of this length
+pub record JoinedWell (train : TrainParams) (long : Float) (t : LinkTable) (at : Front) (n : ℕ) : Type 0 where
   pub real-number : not (eqb n 0) ≡ true
   pub well-formed : wellFormed t n ≡ true
-  pub sums : sumsFinite train t at n ≡ true
+  pub sums : sumsFinite train long t at n ≡ true
 
 record SumsGood (train : TrainParams) (t : LinkTable) (at : Front) (n : ℕ) : Type 0 where
   grades : every isFinite (gradesAt train t at n) ≡ true
   curves : every isFinite (curvesAt train t at n) ≡ true
   powers : every (powerFinite (at .grade .0)) (powersAt (t .links) (t .powers) (t .districts) n) ≡ true
 
-sums-good : (train : TrainParams) (t : LinkTable) (at : Front) (n : ℕ) → sumsFinite train t at n ≡ true → SumsGood train t at n
+sums-good : (train : TrainParams) (long : Float) (t : LinkTable) (at : Front) (n : ℕ) → sumsFinite train long t at n ≡ true → SumsGood train t at n
 unfolding sumsFinite
-sums-good train t at n e =
+sums-good train long t at n e =
     let grades? = every isFinite (gradesAt train t at n) in
     let curves? = every isFinite (curvesAt train t at n) in
     let powers? = every (powerFinite (at .grade .0)) (powersAt (t .links) (t .powers) (t .districts) n) in
-    let a = and-both (finiteAt train (lengthOf train) (setsOf t) (at .link .0) n) _ e in
+    let a = and-both (finiteAt train long (setsOf t) (at .link .0) n) _ e in
     let b = and-both (finite (endAt t at n) && Ieee.lt (at .link .0) (endAt t at n)) (grades? && (curves? && powers?)) (a .1) in
     let c = and-both grades? (curves? && powers?) (b .1) in
     let d = and-both curves? powers? (c .1) in
@@ -181,17 +181,17 @@ records-joined curves train t base rs n e was =
     open-finite (layStretches rs ss)
     ∙ finite-laid rs ss each (stretches-lay curves train base (netOf (lastCoeff rs)) (lengthAt (t .lengths) n) (samplesAt curves (risesOf t) (t .headings) n) (net-finite rs each) e)
 
-module _ (train : TrainParams) (t : LinkTable) (path : Path) (n : ℕ) where
+module _ (train : TrainParams) (long : Float) (t : LinkTable) (path : Path) (n : ℕ) where
   abbrev base : Float
   base = standsAt (lastCoeff (path .grades))
 
-  pub own-join : path .finished ≡ false → 0 < length (path .links) → Own path → JoinedWell train t (frontOf path) n → Own (join train t path n)
+  pub own-join : path .finished ≡ false → 0 < length (path .links) → Own path → JoinedWell train long t (frontOf path) n → Own (join train t path n)
   unfolding join joinPowers closedAtInfinity endCountsZero frontOf linkAt
   own-join opened some own well =
       let links = t .links in
       let ps = path .links in
       let is-formed = formed t n (well .well-formed) in
-      let good = sums-good train t (frontOf path) n (well .sums) in
+      let good = sums-good train long t (frontOf path) n (well .sums) in
       let placed = map (placedPower base) (powersAt links (t .powers) (t .districts) n) in
       let p = endPoint ps in
       let ended = and-both (eqb (curveCount p) 0) (eqb (powerCount p) 0) (and-both (eqb (gradeCount p) 0) _ (own .end-zero) .1) in
@@ -209,30 +209,30 @@ module _ (train : TrainParams) (t : LinkTable) (path : Path) (n : ℕ) where
 
 -- ---- the listed links
 
-abbrev pub AllJoinedWell : TrainParams → LinkTable → Front → List ℕ → Type 0
-AllJoinedWell train t at [] = Unit
-AllJoinedWell train t at (n ∷ ns) = JoinedWell train t at n × AllJoinedWell train t (frontAfter train t at n) ns
+abbrev pub AllJoinedWell : TrainParams → Float → LinkTable → Front → List ℕ → Type 0
+AllJoinedWell train long t at [] = Unit
+AllJoinedWell train long t at (n ∷ ns) = JoinedWell train long t at n × AllJoinedWell train long t (frontAfter train t at n) ns
 
-all-joined-well : (train : TrainParams) (t : LinkTable) (at : Front) (ns : List ℕ) → every (realIn (t .links) (t .lengths) (t .sets)) ns ≡ true → every (wellFormed t) ns ≡ true
-    → every (λ (b : Bool). b) (sumsFrom train t at ns) ≡ true → AllJoinedWell train t at ns
+all-joined-well : (train : TrainParams) (long : Float) (t : LinkTable) (at : Front) (ns : List ℕ) → every (realIn (t .links) (t .lengths) (t .sets)) ns ≡ true → every (wellFormed t) ns ≡ true
+    → every (λ (b : Bool). b) (sumsFrom train long t at ns) ≡ true → AllJoinedWell train long t at ns
 unfolding every sumsFrom realIn
-all-joined-well train t at [] four six eight = tt
-all-joined-well train t at (n ∷ ns) four six eight =
+all-joined-well train long t at [] four six eight = tt
+all-joined-well train long t at (n ∷ ns) four six eight =
     let r = and-both (realIn (t .links) (t .lengths) (t .sets) n) _ four in
     let w = and-both (wellFormed t n) _ six in
-    let s = and-both (sumsFinite train t at n) _ eight in (
+    let s = and-both (sumsFinite train long t at n) _ eight in (
       record { real-number = and-both (not (eqb n 0)) (inTable (t .links) (t .lengths) (t .sets) n) (r .0) .0; well-formed = w .0; sums = s .0 },
-      all-joined-well train t (frontAfter train t at n) ns (r .1) (w .1) (s .1),
+      all-joined-well train long t (frontAfter train t at n) ns (r .1) (w .1) (s .1),
     )
 
-own-all : (train : TrainParams) (t : LinkTable) (path : Path) (ns : List ℕ) → path .finished ≡ false → 0 < length (path .links) → Own path → AllJoinedWell train t (frontOf path) ns
+own-all : (train : TrainParams) (long : Float) (t : LinkTable) (path : Path) (ns : List ℕ) → path .finished ≡ false → 0 < length (path .links) → Own path → AllJoinedWell train long t (frontOf path) ns
     → Own (joinAll train t path ns)
 unfolding joinAll
-own-all train t path [] opened some own well = own
-own-all train t path (n ∷ ns) opened some own well =
+own-all train long t path [] opened some own well = own
+own-all train long t path (n ∷ ns) opened some own well =
     let links = joinPoint (t .links) (t .lengths) (path .links) n in
     let more : 0 < length links = omega (arith, length-joined (t .links) (t .lengths) (path .links) n) in
-    own-all train t (join train t path n) ns (unfold join in opened) (unfold join in more) (own-join train t path n opened some own (well .0)) (rw (front-join train t path n) (well .1))
+    own-all train long t (join train t path n) ns (unfold join in opened) (unfold join in more) (own-join train long t path n opened some own (well .0)) (rw (front-join train t path n) (well .1))
 
 -- ---- the starting net value
 
@@ -273,10 +273,10 @@ own-started t path ns opened six own =
       powers-finite = own .powers-finite;
     }
 
-own-extended : (train : TrainParams) (t : LinkTable) (path : Path) (ns : List ℕ) → path .finished ≡ false → 0 < length (path .links) → every (wellFormed t) ns ≡ true → Own path
-    → AllJoinedWell train t (frontOf (started t path ns)) ns → Own (joinAll train t (started t path ns) ns)
+own-extended : (train : TrainParams) (long : Float) (t : LinkTable) (path : Path) (ns : List ℕ) → path .finished ≡ false → 0 < length (path .links) → every (wellFormed t) ns ≡ true → Own path
+    → AllJoinedWell train long t (frontOf (started t path ns)) ns → Own (joinAll train t (started t path ns) ns)
 unfolding started
-own-extended train t path ns opened some six own well = own-all train t (started t path ns) ns opened some (own-started t path ns opened six own) well
+own-extended train long t path ns opened some six own well = own-all train long t (started t path ns) ns opened some (own-started t path ns opened six own) well
 
 -- ---- how many records there are after
 
@@ -300,12 +300,11 @@ records-more curves train t base rs n =
     length-laid rs (stretches curves train base (netOf (lastCoeff rs)) long ss)
     ∙ ap (λ (k : ℕ). length rs + k) (length-stretches curves train base (netOf (lastCoeff rs)) long ss ∙ samples-count curves t n)
 
-speeds-more : (train : TrainParams) (t : LinkTable) (base : Float) (ps : List Point) (n : ℕ)
-    → length (layAll ps (layingAt train (lengthOf train) (setsOf t) base n)) ≤ length ps + 2 * countAt train (setsOf t) n
-speeds-more train t base ps n =
+speeds-more : (train : TrainParams) (long : Float) (t : LinkTable) (base : Float) (ps : List Point) (n : ℕ)
+    → length (layAll ps (layingAt train long (setsOf t) base n)) ≤ length ps + 2 * countAt train (setsOf t) n
+speeds-more train long t base ps n =
     let q = setsOf t in
     let f = setOf train q n in
-    let long = lengthOf train in
     let e = ap length (laying-by train q n f refl base long) ∙ length-laying (topSpeed train) base long (q .limits) f ∙ sym (count-by train q n f refl) in
     omega (arith, count-laid ps (layingAt train long q base n), e)
 
@@ -318,7 +317,7 @@ grown-one train t path n =
       links = omega (arith, length-joined (t .links) (t .lengths) (path .links) n);
       grades = omega (arith, records-more false train t base (path .grades) n);
       curves = omega (arith, records-more true train t base (path .curves) n);
-      speeds = omega (arith, speeds-more train t (offsetOf (endPoint (path .links))) (path .speeds) n);
+      speeds = omega (arith, speeds-more train (lengthOf train) t (offsetOf (endPoint (path .links))) (path .speeds) n);
       powers = omega (arith, length-append (path .powers) (map (placedPower base) limits), length-map limits (placedPower base), length-range (powerAt (t .powers) (t .districts)) (numbersOf (t .links) n .«powers_first») (powersIn (t .links) n));
     }
 
@@ -378,7 +377,7 @@ record Asked (train : TrainParams) (t : LinkTable) (ns : List ℕ) (p : PathTpc)
   was : Before (pathOf p c) c
   opened : p .«is_finished» ≡ false
   well : every (wellFormed t) ns ≡ true
-  joined : AllJoinedWell train t (frontOf (started t (pathOf p c) ns)) ns
+  joined : AllJoinedWell train (lengthOf train) t (frontOf (started t (pathOf p c) ns)) ns
   fit : recordsFit train t ns p c ≡ true
 
 asked : (train : TrainParams) (t : LinkTable) (ns : List ℕ) (p : PathTpc) (c : Columns) → extendAnswer train t ns p c .number ≡ 0 → Asked train t ns p c
@@ -388,21 +387,22 @@ asked train t ns p c e =
     let type = train .«train_type» in
     let at = frontOf (started t (pathOf p c) ns) in
     let links = linksAnswer t type fifth ns in
-    let sums = sumsAnswer train t ns p c in
+    let sums = sumsAnswer train (lengthOf train) t ns p c in
     let two = turn-done (pathAnswer (trainFinite train) p c) (ask 3 (isOpen p) ∷ links ∷ sums ∷ []) e in
     let good = judged-done (trainFinite train) p c refl (two .0) in
     let three = first-done 2 (links ∷ sums ∷ []) (isOpen p) (two .1) in
     let seven = turn-done links (sums ∷ []) (three .1) in
     let four = turn-done (askEach 4 (question4 (t .links) (t .lengths) (t .sets) ns)) (askEach 5 fifth ∷ askEach 6 (question6 t ns) ∷ askEach 7 (question7 (t .sets) type ns) ∷ []) (unfold linksAnswer in seven .0) in
     let well = all-formed t ns (links-done t type fifth ns (seven .0) .0) in
-    let eighth = firstNo (sumsFrom train t at ns) in
+    let listed = sumsFrom train (lengthOf train) t at ns in
+    let eighth = firstNo listed in
     let nine = turn-done (askEach 8 eighth) (ask 9 (recordsFit train t ns p c) ∷ []) (turn-done sums [] (seven .1) .0) in
-    let eight = none-fails (λ (b : Bool). b) (sumsFrom train t at ns) (ap firstNo (map-id (sumsFrom train t at ns)) ∙ each-done 7 eighth (nine .0)) in
+    let eight = none-fails (λ (b : Bool). b) listed (ap firstNo (map-id listed) ∙ each-done 7 eighth (nine .0)) in
     record {
       was = before p c (good .1) (good .2);
       opened = not-true (p .«is_finished») (three .0);
       well = well;
-      joined = all-joined-well train t at ns (real-links t ns (each-done 3 _ (four .0))) well eight;
+      joined = all-joined-well train (lengthOf train) t at ns (real-links t ns (each-done 3 _ (four .0))) well eight;
       fit = first-done 8 [] (recordsFit train t ns p c) (nine .1) .0;
     }
 
@@ -414,6 +414,6 @@ stays-extend train b t ns p c e claims matched grounded =
     let q = asked train t ns p c e in
     let is : recordOf path ≡ p = counted p c in
     let begun = started t path ns in
-    let own = own-extended train t path ns (unfold pathOf in q .opened) (q .was .some-link) (q .well) (q .was .own) (q .joined) in
+    let own = own-extended train (lengthOf train) t path ns (unfold pathOf in q .opened) (q .was .some-link) (q .well) (q .was .own) (q .joined) in
     let room = needed-within train t ns p c (q .fit) in
     stays train b (joinAll train t begun ns) claims matched grounded own c (fewer-within (recordOf (joinAll train t begun ns)) (needed train t ns p) c (extended-most train t ns path p is) room)

@@ -3,7 +3,8 @@
 use Prim.Native.Nat.{ℕ, _-_}
 use mathlib.Core.Bool.{Bool, cond}
 use mathlib.Core.List.{List, [], _∷_, _++_}
-use lib.ListN.{length, getD}
+use lib.ListN as list
+use lib.ListN.{getD}
 use lib.Ieee as Ieee
 use lib.Ieee.{Float, nan}
 use Rattle.ieee.specs.Number.{+0, _⊕_}
@@ -43,24 +44,24 @@ abbrev pub firstEnd : List Float → Float
 firstEnd ends = getD ends 0 nan
 
 abbrev pub lastEnd : List Float → Float
-lastEnd ends = getD ends (length ends - 1) nan
+lastEnd ends = getD ends (list.length ends - 1) nan
 
--- R87: base is the last end; where the set for the train applies its limits enter, base and tail added, and those below the top speed are laid on the
--- points; the next end is base + length
-unfoldable pub enterLink : TrainParams → LinkTable → Book → ℕ → Book
-enterLink train t b n =
+-- R87, for a train of this length: base is the last end; where the set for the train applies its limits enter, base and tail added, and those below the
+-- top speed are laid on the points; the next end is base + the link's length
+unfoldable pub enterLink : TrainParams → Float → LinkTable → Book → ℕ → Book
+enterLink train length t b n =
     let base = lastEnd (b .ends) in
-    let limits = enteringAt train (lengthOf train) (setsOf t) base n in
+    let limits = enteringAt train length (setsOf t) base n in
     record {
       ends = b .ends ++ (base ⊕ linkAt t n .length) ∷ [];
       limits = b .limits ++ limits;
       points = layAll (b .points) (lowering (topSpeed train) limits);
     }
 
-unfoldable pub enterLinks : TrainParams → LinkTable → Book → List ℕ → Book
+unfoldable pub enterLinks : TrainParams → Float → LinkTable → Book → List ℕ → Book
 unfolding enterLink
-enterLinks train t b [] = b
-enterLinks train t b (n ∷ ns) = enterLinks train t (enterLink train t b n) ns
+enterLinks train length t b [] = b
+enterLinks train length t b (n ∷ ns) = enterLinks train length t (enterLink train length t b n) ns
 
 -- R88: as long as the second end is before x the first one goes
 unfoldable pub dropEndsFrom : Float → Float → List Float → List Float
@@ -82,7 +83,7 @@ dropBehind x b =
 -- R89: all else changes nothing
 unfoldable pub enterCall : TrainParams → Call → Book → Book
 unfolding enterLinks dropBehind
-enterCall train (extend t ns) b = enterLinks train t b ns
+enterCall train (extend t ns) b = enterLinks train (lengthOf train) t b ns
 enterCall train (clear x) b = dropBehind x b
 enterCall train (reindex new) b = b
 enterCall train finish b = b
