@@ -1,6 +1,5 @@
 // The table of stretches: from, to, the speed posted, and what holds there.
 use crate::holders::holder;
-use crate::holders::starter;
 use show::plain;
 use show::real;
 use show::real_in;
@@ -28,7 +27,7 @@ fn reason(boards: &[f64], tags: &[f64], n: usize, i: usize, x: f64, v: f64, top:
         say(b"top speed");
         return;
     }
-    let k = starter(boards, tags, n, x, v);
+    let k = holder(boards, tags, n, x, v, true);
     if k < n {
         say(b"limit of ");
         link_of(tags, k);
@@ -90,7 +89,7 @@ fn pieces(boards: &[f64], tags: &[f64], n: usize, from: f64, to: f64, v: f64, to
         if !(x < to) {
             return;
         }
-        let i = holder(boards, tags, n, x, v);
+        let i = holder(boards, tags, n, x, v, false);
         let next = piece_end(boards, tags, n, i, x, to, v);
         row(x, next, false, v);
         reason(boards, tags, n, i, x, v, Velocity(top.0));
@@ -115,7 +114,7 @@ pub fn table(speeds: &[f64], count: usize, boards: &[f64], tags: &[f64], n: usiz
                 boards,
                 tags,
                 n,
-                holder(boards, tags, n, p.0, p.1),
+                holder(boards, tags, n, p.0, p.1, false),
                 p.0,
                 p.1,
                 Velocity(top.0),
