@@ -1,5 +1,6 @@
 // Lines of a text and their fields: fields are apart by blanks, and from # to the line's end is a comment.
 ghost use mathlib.Core.Path.{_≡_};
+ghost use mathlib.Core.Bool.{cond};
 ghost use Prim.Native.Nat.{_<_};
 ghost use lib.ListN.{length};
 ghost use Rattle.route.specs.Text as spec;
@@ -10,40 +11,24 @@ pub struct Span {
     pub to: usize,
 }
 
-fn is_blank(b: u8) -> bool
-    ensures { λ r. ⌜ r ≡ spec.isBlank b ⌝ }
+// Whether a byte is a blank, or with `field` one that belongs to a field.
+fn passed(b: u8, field: bool) -> bool
+    ensures { λ r. ⌜ r ≡ cond field spec.inField spec.isBlank b ⌝ }
 {
-    (b == 32) | ((b == 9) | (b == 13))
-}
-
-// Whether a byte belongs to a field.
-fn in_field(b: u8) -> bool
-    ensures { λ r. ⌜ r ≡ spec.inField b ⌝ }
-{
-    !(is_blank(b) | ((b == 10) | (b == 35)))
-}
-
-// The first place from `at` on where no blank stands.
-fn after_blanks(text: &[u8], at: usize) -> usize
-    ensures { λ r. ⌜ r ≡ spec.past spec.isBlank (now (text .entry)) at ⌝ }
-{
-    let mut i = at;
-    while i < text.len() {
-        if !is_blank(text[i]) {
-            return i;
-        }
-        i += 1;
+    let blank = (b == 32) | ((b == 9) | (b == 13));
+    if field {
+        return !(blank | ((b == 10) | (b == 35)));
     }
-    i
+    blank
 }
 
-// The first place from `at` on that belongs to no field.
-fn after_field(text: &[u8], at: usize) -> usize
-    ensures { λ r. ⌜ r ≡ spec.past spec.inField (now (text .entry)) at ⌝ }
+// The first place from `at` on where no blank stands, or with `field` that belongs to no field.
+fn past(text: &[u8], at: usize, field: bool) -> usize
+    ensures { λ r. ⌜ r ≡ spec.past (cond field spec.inField spec.isBlank) (now (text .entry)) at ⌝ }
 {
     let mut i = at;
     while i < text.len() {
-        if !in_field(text[i]) {
+        if !passed(text[i], field) {
             return i;
         }
         i += 1;
@@ -55,10 +40,10 @@ fn after_field(text: &[u8], at: usize) -> usize
 pub fn field_from(text: &[u8], at: usize) -> Span
     ensures { λ r. ⌜ r ≡ spec.fieldFrom (now (text .entry)) at ⌝ }
 {
-    let from = after_blanks(text, at);
+    let from = past(text, at, false);
     Span {
         from,
-        to: after_field(text, from),
+        to: past(text, from, true),
     }
 }
 
