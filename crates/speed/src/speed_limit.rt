@@ -12,7 +12,7 @@ pub struct SpeedLimit {
 }
 
 // b where it is below a, otherwise a.
-fn lesser(a: f64, b: f64) -> f64
+pub fn lesser(a: f64, b: f64) -> f64
     ensures { λ r. ⌜ r ≡ smaller a b ⌝ }
 {
     if b < a { b } else { a }

@@ -1,7 +1,7 @@
 // The picture of a run as SVG: distance across, the speed posted as a step line, limits with their tails, link borders, dropped links grey, heights below.
-use crate::stretches::smaller;
 use show::real;
 use show::say;
+use speed::speed_limit::lesser;
 
 // From where to where the picture reaches: offsets across, speeds up to `top`, heights from `low` to `high`. Links before `begin` were dropped.
 pub struct Frame {
@@ -27,13 +27,13 @@ fn ratio(a: f64, b: f64) -> f64 {
 
 // The place of an offset across, from 60 to 1060.
 fn across(f: Frame, o: f64) -> f64 {
-    let inside = smaller(larger(o, f.first), f.last);
+    let inside = lesser(larger(o, f.first), f.last);
     60.0 + 1000.0 * ratio(inside - f.first, f.last - f.first)
 }
 
 // The place of a speed, from 320 up to 40 for the top speed.
 fn up(f: Frame, v: f64) -> f64 {
-    320.0 - 280.0 * smaller(ratio(ieee::size(v), f.top), 1.0)
+    320.0 - 280.0 * lesser(ratio(ieee::size(v), f.top), 1.0)
 }
 
 // The place of a height, from 450 up to 360.
@@ -156,7 +156,7 @@ fn reaching(f: Frame, col: &[f64], n: usize) -> Frame {
     let mut i = 0;
     while i < n {
         let h = column::floats::two_at(col, i).1;
-        low = smaller(low, h);
+        low = lesser(low, h);
         high = larger(high, h);
         i += 1;
     }

@@ -5,6 +5,7 @@ use show::real;
 use show::real_in;
 use show::say;
 use si::Velocity;
+use speed::speed_limit::lesser;
 
 // The link of limit i.
 fn link_of(tags: &[f64], i: usize) {
@@ -37,11 +38,6 @@ fn reason(boards: &[f64], tags: &[f64], n: usize, i: usize, x: f64, v: f64, top:
     say(b"the speed points given");
 }
 
-// The smaller of two numbers.
-pub fn smaller(a: f64, b: f64) -> f64 {
-    if b < a { b } else { a }
-}
-
 // The first start behind x, and before `to`, of a limit with the size of v; `to` where there is none.
 fn next_start(boards: &[f64], tags: &[f64], n: usize, x: f64, to: f64, v: f64) -> f64 {
     let mut first = to;
@@ -50,7 +46,7 @@ fn next_start(boards: &[f64], tags: &[f64], n: usize, x: f64, to: f64, v: f64) -
         let start = column::floats::three_at(boards, i).0;
         let speed = column::floats::two_at(tags, i).0;
         if (x < start) & (ieee::size(speed) == ieee::size(v)) {
-            first = smaller(first, start);
+            first = lesser(first, start);
         }
         i += 1;
     }
@@ -62,9 +58,9 @@ fn piece_end(boards: &[f64], tags: &[f64], n: usize, i: usize, x: f64, to: f64, 
     if i < n {
         let b = column::floats::three_at(boards, i);
         if x < b.1 {
-            return smaller(b.1, to);
+            return lesser(b.1, to);
         }
-        return smaller(b.2, to);
+        return lesser(b.2, to);
     }
     next_start(boards, tags, n, x, to, v)
 }

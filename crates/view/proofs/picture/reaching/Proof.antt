@@ -20,8 +20,8 @@ loop-holds c = tt
 two-at-requires-2 : tie.Need-two-at-requires-2 Inv-loop μ-loop
 two-at-requires-2 c κs = search needs
 
-smaller-requires : tie.Need-smaller-requires Inv-loop μ-loop
-smaller-requires c κs = search needs
+lesser-requires : tie.Need-lesser-requires Inv-loop μ-loop
+lesser-requires c κs = search needs
 
 larger-requires : tie.Need-larger-requires Inv-loop μ-loop
 larger-requires c κs = search needs
@@ -47,7 +47,7 @@ reaching-spec =
     two-at-requires
     loop-holds
     two-at-requires-2
-    smaller-requires
+    lesser-requires
     larger-requires
     add-i
     loop-less

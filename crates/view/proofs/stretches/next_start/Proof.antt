@@ -26,8 +26,8 @@ size-requires c κs = search needs
 size-requires-2 : tie.Need-size-requires-2 Inv-loop μ-loop
 size-requires-2 c κs = search needs
 
-smaller-requires : tie.Need-smaller-requires Inv-loop μ-loop
-smaller-requires c κs = search needs
+lesser-requires : tie.Need-lesser-requires Inv-loop μ-loop
+lesser-requires c κs = search needs
 
 add-i : tie.Need-add-i Inv-loop μ-loop
 add-i c = omega arith
@@ -52,7 +52,7 @@ next-start-spec =
     two-at-requires
     size-requires
     size-requires-2
-    smaller-requires
+    lesser-requires
     add-i
     loop-less
     loop-again
