@@ -8,7 +8,8 @@ use borrow.Author.Tests.{eq-eqb, ne-eqb, le-leb, lt-leb}
 use lib.ListN.{length, drop, getD}
 use lib.Ieee.{Float, binary64, ofBits}
 use Rattle.decimal.specs.Decimal.{digitsOf, valueOf, readDecimal}
-use Rattle.decimal.specs.Number.{allHex, hexFrom, readNumber, allDigits, wholeFrom, readWhole}
+use Rattle.decimal.specs.Digits.{allDigits, wholeFrom}
+use Rattle.decimal.specs.Number.{readNumber, readWhole}
 use Rattle.decimal.specs.declared.decimal.Digits.{Digits}
 use Rattle.decimal.specs.declared.decimal.Reading.{Reading}
 use Rattle.decimal.specs.declared.decimal.Reading.the-variants.{Is, Not}
@@ -31,11 +32,11 @@ decimal-plus [] d r h e x y = absurd (h refl)
 decimal-plus (b ∷ l) d r h e x y = y ∙ ap (valueOf false) x ∙ sym (ap (λ (t : Bool). cond t (valueOf true (digitsOf l)) (valueOf false (digitsOf (b ∷ l)))) (ne-eqb b 45 e))
 
 -- ---- a number
-pub number-bits : (l : List ℕ) (n : ℕ) (x : Float) → length l ≡ 16 → allHex l ≡ true → n ≡ hexFrom 0 l → x ≡ ofBits binary64 n → Is x ≡ readNumber l
+pub number-bits : (l : List ℕ) (n : ℕ) (x : Float) → length l ≡ 16 → allDigits 16 l ≡ true → n ≡ wholeFrom 16 0 l → x ≡ ofBits binary64 n → Is x ≡ readNumber l
 unfolding readNumber
 number-bits l n x h e f g = rw (eq-eqb (length l) 16 h, e) (ap Is (g ∙ ap (ofBits binary64) f))
 
-pub number-other : (l : List ℕ) (r : Reading) → allHex l ≡ false → r ≡ readDecimal l → r ≡ readNumber l
+pub number-other : (l : List ℕ) (r : Reading) → allDigits 16 l ≡ false → r ≡ readDecimal l → r ≡ readNumber l
 unfolding readNumber
 number-other l r e f = rw (e, and-false) f
 
@@ -52,14 +53,14 @@ pub whole-long : (l : List ℕ) → 10 < length l → Wholes.Not ≡ readWhole l
 unfolding readWhole
 whole-long l h = rw (lt-leb (length l) 10 h, and-false)
 
-pub whole-other : (l : List ℕ) → allDigits l ≡ false → Wholes.Not ≡ readWhole l
+pub whole-other : (l : List ℕ) → allDigits 10 l ≡ false → Wholes.Not ≡ readWhole l
 unfolding readWhole
 whole-other l e = rw (e, and-false, and-false)
 
-pub whole-large : (l : List ℕ) (n : ℕ) → n ≡ wholeFrom 0 l → 4294967295 < n → Wholes.Not ≡ readWhole l
+pub whole-large : (l : List ℕ) (n : ℕ) → n ≡ wholeFrom 10 0 l → 4294967295 < n → Wholes.Not ≡ readWhole l
 unfolding readWhole
-whole-large l n e h = rw (lt-leb (wholeFrom 0 l) 4294967295 (omega arith), and-false, and-false, and-false)
+whole-large l n e h = rw (lt-leb (wholeFrom 10 0 l) 4294967295 (omega arith), and-false, and-false, and-false)
 
-pub whole-is : (l : List ℕ) (n : ℕ) → (length l ≡ 0 → ⊥) → length l ≤ 10 → allDigits l ≡ true → n ≡ wholeFrom 0 l → n ≤ 4294967295 → Wholes.Is n ≡ readWhole l
+pub whole-is : (l : List ℕ) (n : ℕ) → (length l ≡ 0 → ⊥) → length l ≤ 10 → allDigits 10 l ≡ true → n ≡ wholeFrom 10 0 l → n ≤ 4294967295 → Wholes.Is n ≡ readWhole l
 unfolding readWhole
-whole-is l n h k e f g = rw (le-leb 1 (length l) (omega arith), le-leb (length l) 10 k, e, le-leb (wholeFrom 0 l) 4294967295 (omega arith)) (ap Wholes.Is f)
+whole-is l n h k e f g = rw (le-leb 1 (length l) (omega arith), le-leb (length l) 10 k, e, le-leb (wholeFrom 10 0 l) 4294967295 (omega arith)) (ap Wholes.Is f)

@@ -1,7 +1,6 @@
 -- Single bytes.
-use Prim.Native.Nat.{ℕ, _-_, _≤_, _<_}
-use native.Mathlib.Omega.{arith}
-use mathlib.Core.Path.{_≡_, refl, subst}
+use Prim.Native.Nat.{ℕ, _-_, _≤_}
+use mathlib.Core.Path.{_≡_, refl}
 use mathlib.Core.Bool.{Bool, true, false, _&&_, false≢true}
 use borrow.Author.Tests.{leb-true}
 use lib.Dec.{leb}
@@ -29,8 +28,3 @@ hex-upper b e h k = rw (e, h, k)
 
 pub hex-none : (b : ℕ) → isDigit b ≡ false → (leb 97 b && leb b 102) ≡ false → (leb 65 b && leb b 70) ≡ false → 16 ≡ hexValue b
 hex-none b e h k = rw (e, h, k)
-
-pub digit-value : (b : ℕ) → isDigit b ≡ true → hexValue b < 10
-digit-value b e =
-    let h = between 48 57 b e in
-    subst (λ (z : ℕ). z < 10) (hex-digit b e) (omega arith)

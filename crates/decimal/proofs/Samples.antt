@@ -83,3 +83,7 @@ too-large-whole = refl
 signed-whole : readWhole (bytes "-1") ≡ Wholes.Not
 unfolding readWhole
 signed-whole = refl
+
+lettered-whole : readWhole (bytes "1a") ≡ Wholes.Not
+unfolding readWhole
+lettered-whole = refl

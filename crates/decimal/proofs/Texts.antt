@@ -1,49 +1,22 @@
--- A text from an index on: a test of every byte, a result that is carried along, and the number that digits write.
+-- A text from an index on: a result that is carried along, and the number that digits write.
 use Prim.Native.Nat.{ℕ, _+_, _*_, _^_, _≤_, _<_, zero-le}
-use native.Mathlib.Nat.{lt-of-lt-of-le, mul-suc, mul-le-mul-left, one-le-pow, pow-succ', pow-le-pow-right}
+use native.Mathlib.Nat.{le-trans, lt-of-lt-of-le, mul-suc, mul-le-mul-left, pow-zero, pow-succ', pow-le-pow-left, pow-le-pow-right}
 use native.Mathlib.Numerals.{add-one}
 use native.Mathlib.Omega.{arith}
 use mathlib.Core.Path.{_≡_, refl, sym, ap, _∙_}
-use mathlib.Core.Bool.{Bool, true, false, _&&_}
+use mathlib.Core.Bool.{true, false, _&&_}
 use mathlib.Core.List.{List, [], _∷_}
-use borrow.Author.Tests.{leb-true}
-use lib.Dec.{leb, lit≤}
+use borrow.Author.Tests.{ltb-true, lt-ltb, le-ltb}
+use lib.Dec.{ltb, lit≤}
 use lib.ListN.{length, drop, getD, drop-of-length-le}
 use lib.Seq.{drop-cons}
-use Rattle.decimal.specs.Digits.{isDigit, hexValue}
+use Rattle.decimal.specs.Digits.{hexValue, allDigits, wholeFrom}
 use Rattle.decimal.specs.Decimal.{step, digitsFrom}
-use Rattle.decimal.specs.Number.{allHex, hexFrom, allDigits, wholeFrom}
-use Rattle.decimal.proofs.Bytes.{both, digit-value}
+use Rattle.decimal.proofs.Bytes.{both}
 
 -- the byte at an index, and those after it
 rest : (l : List ℕ) (i : ℕ) → i < length l → drop i l ≡ getD l i 0 ∷ drop (i + 1) l
 rest l i h = rw add-one (drop-cons l i 0 h)
-
--- ---- a test of every byte
-pub record Every (all : List ℕ → Bool) (one : ℕ → Bool) : Type 0 where
-  pub nil : all [] ≡ true
-  pub cons : (b : ℕ) (l : List ℕ) → all (b ∷ l) ≡ (one b && all l)
-
-module _ {all : List ℕ → Bool} {one : ℕ → Bool} (E : Every all one) (l : List ℕ) (i : ℕ) where
-  every-here : i < length l → all (drop i l) ≡ (one (getD l i 0) && all (drop (i + 1) l))
-  every-here h = ap all (rest l i h) ∙ E .cons (getD l i 0) (drop (i + 1) l)
-
-  pub every-next : i < length l → one (getD l i 0) ≡ true → all (drop (i + 1) l) ≡ all (drop i l)
-  every-next h e = sym (every-here h ∙ ap (λ (t : Bool). t && all (drop (i + 1) l)) e)
-
-  pub every-stop : i < length l → one (getD l i 0) ≡ false → false ≡ all (drop i l)
-  every-stop h e = sym (every-here h ∙ ap (λ (t : Bool). t && all (drop (i + 1) l)) e)
-
-  pub every-end : length l ≤ i → true ≡ all (drop i l)
-  every-end h = sym (ap all (drop-of-length-le l h) ∙ E .nil)
-
-pub all-hex : Every allHex (λ b. leb (hexValue b) 15)
-unfolding allHex
-all-hex = record { nil = refl; cons = λ b l. refl }
-
-pub all-digits : Every allDigits isDigit
-unfolding allDigits
-all-digits = record { nil = refl; cons = λ b l. refl }
 
 -- ---- a result that is carried along
 pub record Carried {S : Type 0} (from : S → List ℕ → S) (next : S → ℕ → S) : Type 0 where
@@ -61,53 +34,55 @@ pub digits-carried : Carried digitsFrom step
 unfolding digitsFrom
 digits-carried = record { nil = λ d. refl; cons = λ d b l. refl }
 
--- ---- the number that digits to a base write
-pub record Base (k : ℕ) (one : ℕ → Bool) (all : List ℕ → Bool) (from : ℕ → List ℕ → ℕ) : Type 0 where
-  pub positive : 0 < k
-  pub every : Every all one
-  pub carried : Carried from (λ n b. k * n + hexValue b)
-  pub value : (b : ℕ) → one b ≡ true → hexValue b < k
+-- ---- digits to a base
+module _ (k : ℕ) (l : List ℕ) (i : ℕ) where
+  digits-here : i < length l → allDigits k (drop i l) ≡ (ltb (hexValue (getD l i 0)) k && allDigits k (drop (i + 1) l))
+  unfolding allDigits
+  digits-here h = ap (allDigits k) (rest l i h)
 
-pub hexes : Base 16 (λ b. leb (hexValue b) 15) allHex hexFrom
-unfolding hexFrom
-hexes = record {
-  positive = lit≤ tt;
-  every = all-hex;
-  carried = record { nil = λ n. refl; cons = λ n b l. refl };
-  value = λ b e. let h : hexValue b ≤ 15 = leb-true (hexValue b) 15 e in omega arith;
-}
+  pub digits-next : (v : ℕ) → i < length l → v ≡ hexValue (getD l i 0) → v < k → allDigits k (drop (i + 1) l) ≡ allDigits k (drop i l)
+  digits-next v h e b = sym (digits-here h ∙ rw (← e, lt-ltb v k b))
 
-pub tens : Base 10 isDigit allDigits wholeFrom
+  pub digits-stop : (v : ℕ) → i < length l → v ≡ hexValue (getD l i 0) → k ≤ v → false ≡ allDigits k (drop i l)
+  digits-stop v h e b = sym (digits-here h ∙ rw (← e, le-ltb v k b))
+
+  pub digits-end : length l ≤ i → true ≡ allDigits k (drop i l)
+  unfolding allDigits
+  digits-end h = rw (drop-of-length-le l h)
+
+whole-carried : (k : ℕ) → Carried (wholeFrom k) (λ n b. k * n + hexValue b)
 unfolding wholeFrom
-tens = record { positive = lit≤ tt; every = all-digits; carried = record { nil = λ n. refl; cons = λ n b l. refl }; value = digit-value }
+whole-carried k = record { nil = λ n. refl; cons = λ n b l. refl }
 
 -- n is what the digits before i write, and those from i on are digits
-pub record Read {k : ℕ} {one : ℕ → Bool} {all : List ℕ → Bool} {from : ℕ → List ℕ → ℕ} (B : Base k one all from) (l : List ℕ) (n i : ℕ) : Type 0 where
+pub record Read (k : ℕ) (l : List ℕ) (n i : ℕ) : Type 0 where
   pub within : i ≤ length l
   pub below : n < k ^ i
-  pub digits : all (drop i l) ≡ true
-  pub same : from n (drop i l) ≡ from 0 l
+  pub digits : allDigits k (drop i l) ≡ true
+  pub same : wholeFrom k n (drop i l) ≡ wholeFrom k 0 l
 
 one-more : (k n v i : ℕ) → v < k → n < k ^ i → k * n + v < k ^ (i + 1)
 one-more k n v i h b = rw (add-one, pow-succ' k i) (omega (arith, mul-le-mul-left k b, mul-suc k n))
 
-module _ {k : ℕ} {one : ℕ → Bool} {all : List ℕ → Bool} {from : ℕ → List ℕ → ℕ} (B : Base k one all from) (l : List ℕ) where
-  pub read-start : all l ≡ true → Read B l 0 0
-  read-start e = record { within = zero-le; below = one-le-pow 0 k (B .positive); digits = e; same = refl }
+module _ (k : ℕ) (l : List ℕ) where
+  pub read-start : allDigits k l ≡ true → Read k l 0 0
+  read-start e = record { within = zero-le; below = rw pow-zero (lit≤ tt); digits = e; same = refl }
 
-  module _ (n i : ℕ) (R : Read B l n i) where
-    pub read-next : (v : ℕ) → i < length l → v ≡ hexValue (getD l i 0) → Read B l (k * n + v) (i + 1)
+  module _ (n i : ℕ) (R : Read k l n i) where
+    pub read-next : (v : ℕ) → i < length l → v ≡ hexValue (getD l i 0) → Read k l (k * n + v) (i + 1)
     read-next v h e =
-        let g = both (one (getD l i 0)) (all (drop (i + 1) l)) (sym (every-here (B .every) l i h) ∙ R .digits) in
+        let g = both (ltb (hexValue (getD l i 0)) k) (allDigits k (drop (i + 1) l)) (sym (digits-here k l i h) ∙ R .digits) in
         record {
           within = omega arith;
-          below = one-more k n v i (rw e (B .value (getD l i 0) (g .0))) (R .below);
+          below = one-more k n v i (rw e (ltb-true (hexValue (getD l i 0)) k (g .0))) (R .below);
           digits = g .1;
-          same = rw e (carried-next (B .carried) l i n h ∙ R .same);
+          same = rw e (carried-next (whole-carried k) l i n h ∙ R .same);
         }
 
-    pub read-fits : (m : ℕ) → length l ≤ m → n < k ^ m
-    read-fits m h = lt-of-lt-of-le (R .below) (pow-le-pow-right (B .positive) (omega arith))
+    pub read-fits : length l ≤ 16 → k ≤ 16 → n < 16 ^ 16
+    read-fits h b =
+        let w : i ≤ 16 = omega arith in
+        lt-of-lt-of-le (R .below) (le-trans (pow-le-pow-left b i) (pow-le-pow-right (lit≤ tt) w))
 
-    pub read-end : length l ≤ i → n ≡ from 0 l
-    read-end h = carried-end (B .carried) l i n h ∙ R .same
+    pub read-end : length l ≤ i → n ≡ wholeFrom k 0 l
+    read-end h = carried-end (whole-carried k) l i n h ∙ R .same

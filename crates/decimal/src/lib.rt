@@ -1,5 +1,5 @@
 // Numbers out of text: decimals with one rounding, f64 as 16 hex digits, and whole numbers.
-pub mod digits; // single bytes
+pub mod digits; // bytes, and the number that digits write
 pub mod decimal; // a decimal: sign, digits, point, digits
 pub mod number; // an f64 as a decimal or as its bits
 pub mod whole; // a whole number below 2^32

@@ -7,17 +7,17 @@ use Rattle.decimal.proofs.Answers.{number-bits, number-other, number-le
 use Rattle.decimal.proofs.number.read_number.Statement.{statement}
 use Rattle.decimal.proofs.number.read_number.Tie as tie
 
-all-hex-requires : tie.Need-all-hex-requires
-all-hex-requires c κs = search needs
+all-digits-requires : tie.Need-all-digits-requires
+all-digits-requires c κs = search needs
 
-hex-number-requires : tie.Need-hex-number-requires
-hex-number-requires c κs = (omega arith, sym (c .before .all-hex .ensures) ∙ c .if2 .taken)
+digits-number-requires : tie.Need-digits-number-requires
+digits-number-requires c κs = (omega arith, (omega arith, sym (c .before .all-digits .ensures) ∙ c .if2 .taken))
 
 of-bits-requires : tie.Need-of-bits-requires
 of-bits-requires c κs = search needs
 
 returns : tie.Need-returns
-returns c = number-bits (c .before .before .before .before .before .before .args .text .now) (c .before .hex-number .result) (c .of-bits .result) (c .before .before .before .before .if1 .taken) (sym (c .before .before .before .all-hex .ensures) ∙ c .before .before .if2 .taken) (c .before .hex-number .ensures) (c .of-bits .ensures)
+returns c = number-bits (c .before .before .before .before .before .before .args .text .now) (c .before .digits-number .result) (c .of-bits .result) (c .before .before .before .before .if1 .taken) (sym (c .before .before .before .all-digits .ensures) ∙ c .before .before .if2 .taken) (c .before .digits-number .ensures) (c .of-bits .ensures)
 
 read-decimal-requires : tie.Need-read-decimal-requires
 read-decimal-requires c κs = search needs
@@ -32,8 +32,8 @@ pub read-number-spec : {M : Type 1} → statement M
 read-number-spec =
     tie.close
     (tie.spec
-    all-hex-requires
-    hex-number-requires
+    all-digits-requires
+    digits-number-requires
     of-bits-requires
     returns
     read-decimal-requires

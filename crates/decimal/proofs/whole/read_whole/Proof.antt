@@ -1,5 +1,6 @@
 -- `read_whole`: test by test.
 use mathlib.Core.Path.{sym, _∙_}
+use native.Mathlib.Omega.{arith}
 use borrow.Author.Needs.{needs}
 use borrow.Author.Tests.{not-true, not-false}
 use Rattle.decimal.proofs.Answers.{whole-empty, whole-long, whole-other, whole-large, whole-is}
@@ -19,7 +20,7 @@ returns-3 : tie.Need-returns-3
 returns-3 c = whole-other (c .before .before .before .before .before .args .text .now) (sym (c .before .all-digits .ensures) ∙ not-true (c .before .all-digits .result) (c .if3 .taken))
 
 digits-number-requires : tie.Need-digits-number-requires
-digits-number-requires c κs = (c .before .before .if2 .left, sym (c .before .all-digits .ensures) ∙ not-false (c .before .all-digits .result) (c .if3 .left))
+digits-number-requires c κs = (omega arith, (omega arith, sym (c .before .all-digits .ensures) ∙ not-false (c .before .all-digits .result) (c .if3 .left)))
 
 cast-t6 : tie.Need-cast-t6
 cast-t6 c = search needs
