@@ -1,10 +1,10 @@
 -- `Strap`: the searches of a call, where they end, and the resistance at two indices.
 use Prim.Native.Nat.{ℕ, _-_, _≤_, _<_}
 use mathlib.Core.Path.{_≡_, refl, sym, ap, ap₂, _∙_, subst}
-use mathlib.Core.Bool.{Bool, true, false, _&&_, and-true, cond}
+use mathlib.Core.Bool.{Bool, true, false, not, _&&_, and-true, cond}
 use mathlib.Core.List.{List, [], _∷_, _++_}
 use native.Mathlib.Omega.{arith}
-use borrow.Author.Tests.{eq-eqb, ne-eqb, eqb-true, eqb-false, le-leb, lt-leb}
+use borrow.Author.Tests.{eqb-true, eqb-false, le-leb, lt-leb}
 use lib.Dec.{T, eqb, leb}
 use lib.ListN.{length}
 use lib.Ieee.{Float}
@@ -27,7 +27,8 @@ use Rattle.resistance.specs.declared.strap.Moved.{Moved}
 use Rattle.resistance.specs.declared.strap.StrapAnswer.{StrapAnswer}
 use Rattle.resistance.specs.declared.strap.StrapRes.{StrapRes}
 use Rattle.resistance.specs.Listed.{listAnswer, search, notSearched, valueSteps}
-use Rattle.resistance.specs.Strap.{strapOf, frontIdx, backIdx, answered, afterSearch, movedTo, notMoved, movedBack, movedFront, moved, frontValue, backValue, calcResStrap, resAt, resSteps, noStrap, newKnown, refusedRes, calcResKnown, newOf, calcResOf, fixCache}
+use Rattle.resistance.specs.Strap.{strapOf, frontIdx, backIdx, answered, afterSearch, movedTo, notMoved, movedEnds, moved, frontValue, backValue, calcResStrap, resAt, resSteps, noStrap, newKnown, refusedRes, calcResKnown, newOf, calcResOf, fixCache}
+use Rattle.link.proofs.Known.{and-both}
 use Rattle.ieee.proofs.Finite.{sub-finite-l, sub-finite-r, mul-finite-l, div-finite-l}
 use Rattle.resistance.proofs.Answered.{one-no, one-yes, behind-no, behind-yes, both-first, both-second, both-done}
 use Rattle.resistance.proofs.ListSteps.{list-of-state, Within, search-within, implied, last-of-three, value-finite}
@@ -45,125 +46,63 @@ module _ {A : Type 0} (refuse : Answer → A) {found r : Searched} (e : r ≡ fo
     after-yes : (next : ℕ → A) {m : A} → m ≡ next (r .idx) → m ≡ afterSearch refuse found (next (found .idx))
     after-yes next f = behind-yes refuse answer-is z (f ∙ ap (λ (s : Searched). next (s .idx)) e)
 
-    -- the other end stands at k: it is searched for unless the index found is k
-    module _ (same other : ℕ → A) (k : ℕ) where
-      abbrev unless : Bool → ℕ → A
-      unless b i = cond b (same i) (other i)
-
-      same-end : {m : A} → r .idx ≡ k → m ≡ same (r .idx) → m ≡ afterSearch refuse found (unless (eqb (found .idx) k) (found .idx))
-      same-end h f = after-yes (λ (i : ℕ). unless (eqb i k) i) (f ∙ ap (λ (b : Bool). unless b (r .idx)) (sym (eq-eqb (r .idx) k h)))
-
-      other-end : {m : A} → (r .idx ≡ k → ⊥) → m ≡ other (r .idx) → m ≡ afterSearch refuse found (unless (eqb (found .idx) k) (found .idx))
-      other-end h f = after-yes (λ (i : ℕ). unless (eqb i k) i) (f ∙ ap (λ (b : Bool). unless b (r .idx)) (sym (ne-eqb (r .idx) k h)))
-
 -- ---- the searches of a call
-module _ (dir : Dir) (t : Strap) (s : TrainState) (rs : List PathResCoeff) where
-  module _ (front : ℕ) (asks : Bool) {r : Searched} (e : r ≡ search dir (backOf s) (backIdx t) rs) where
-    pub back-refused : {m : Moved} → (r .answer .number ≡ 0 → ⊥) → m ≡ notMoved t (r .answer) → m ≡ movedBack dir t front asks s rs
-    unfolding movedBack
-    back-refused h f = after-no (notMoved t) e _ h f
+module _ (dir : Dir) (both : Bool) (x : Float) (i : ℕ) (y : Float) (k : ℕ) (rs : List PathResCoeff) {r : Searched} (e : r ≡ search dir x i rs) where
+  pub first-refused : {m : Moved} → (r .answer .number ≡ 0 → ⊥) → m ≡ notMoved i k (r .answer) → m ≡ movedEnds dir both x i y k rs
+  unfolding movedEnds
+  first-refused h f = after-no (notMoved i k) e _ h f
 
-    pub back-found : {m : Moved} → r .answer .number ≡ 0 → m ≡ movedTo front (r .idx) (asks && eqb front (r .idx)) → m ≡ movedBack dir t front asks s rs
-    unfolding movedBack
-    back-found z f = after-yes (notMoved t) e z (λ (i : ℕ). movedTo front i (asks && eqb front i)) f
+  -- j is the index found, and b whether it serves both ends
+  abbrev going-on : Bool → ℕ → Moved
+  going-on b j =
+      let second = search dir y k rs in
+      cond b (movedTo j k true) (afterSearch (notMoved i k) second (movedTo j (second .idx) (both && eqb j (second .idx))))
 
-  module _ (back : ℕ) {r : Searched} (e : r ≡ search dir (frontOf s) (frontIdx t) rs) where
-    pub front-refused : {m : Moved} → (r .answer .number ≡ 0 → ⊥) → m ≡ notMoved t (r .answer) → m ≡ movedFront dir t back s rs
-    unfolding movedFront
-    front-refused h f = after-no (notMoved t) e _ h f
+  module _ (z : r .answer .number ≡ 0) where
+    went-on : {b : Bool} {m : Moved} → (not both && eqb (r .idx) k) ≡ b → m ≡ going-on b (r .idx) → m ≡ movedEnds dir both x i y k rs
+    unfolding movedEnds
+    went-on h f = after-yes (notMoved i k) e z (λ (j : ℕ). going-on (not both && eqb j k) j) (f ∙ ap (λ (t : Bool). going-on t (r .idx)) (sym h))
 
-    pub front-found : {m : Moved} → r .answer .number ≡ 0 → m ≡ movedTo (r .idx) back false → m ≡ movedFront dir t back s rs
-    unfolding movedFront
-    front-found z f = after-yes (notMoved t) e z (λ (i : ℕ). movedTo i back false) f
+    pub first-serves : {m : Moved} → (not both && eqb (r .idx) k) ≡ true → m ≡ movedTo (r .idx) k true → m ≡ movedEnds dir both x i y k rs
+    first-serves h f = went-on h f
 
-module _ (t : Strap) (s : TrainState) (rs : List PathResCoeff) {r : Searched} where
-  module _ (e : r ≡ search Fwd (frontOf s) (frontIdx t) rs) where
-    pub fwd-refused : {m : Moved} → (r .answer .number ≡ 0 → ⊥) → m ≡ notMoved t (r .answer) → m ≡ moved Fwd t s rs
-    unfolding moved
-    fwd-refused h f = after-no (notMoved t) e _ h f
+    module _ (h : (not both && eqb (r .idx) k) ≡ false) {q : Searched} (d : q ≡ search dir y k rs) where
+      pub second-refused : {m : Moved} → (q .answer .number ≡ 0 → ⊥) → m ≡ notMoved i k (q .answer) → m ≡ movedEnds dir both x i y k rs
+      second-refused l f = went-on h (after-no (notMoved i k) d _ l f)
 
-    module _ (z : r .answer .number ≡ 0) where
-      abbrev at-back : ℕ → Moved
-      at-back i = movedTo i (backIdx t) true
-
-      abbrev then-back : ℕ → Moved
-      then-back i = movedBack Fwd t i false s rs
-
-      pub fwd-same : {m : Moved} → r .idx ≡ backIdx t → m ≡ movedTo (r .idx) (backIdx t) true → m ≡ moved Fwd t s rs
-      unfolding moved
-      fwd-same h f = same-end (notMoved t) e z at-back then-back (backIdx t) h f
-
-      pub fwd-other : {m : Moved} → (r .idx ≡ backIdx t → ⊥) → m ≡ movedBack Fwd t (r .idx) false s rs → m ≡ moved Fwd t s rs
-      unfolding moved
-      fwd-other h f = other-end (notMoved t) e z at-back then-back (backIdx t) h f
-
-  module _ (e : r ≡ search Bwd (backOf s) (backIdx t) rs) where
-    pub bwd-refused : {m : Moved} → (r .answer .number ≡ 0 → ⊥) → m ≡ notMoved t (r .answer) → m ≡ moved Bwd t s rs
-    unfolding moved
-    bwd-refused h f = after-no (notMoved t) e _ h f
-
-    module _ (z : r .answer .number ≡ 0) where
-      abbrev at-front : ℕ → Moved
-      at-front i = movedTo (frontIdx t) i true
-
-      abbrev then-front : ℕ → Moved
-      then-front i = movedFront Bwd t i s rs
-
-      pub bwd-same : {m : Moved} → r .idx ≡ frontIdx t → m ≡ movedTo (frontIdx t) (r .idx) true → m ≡ moved Bwd t s rs
-      unfolding moved
-      bwd-same h f = same-end (notMoved t) e z at-front then-front (frontIdx t) h f
-
-      pub bwd-other : {m : Moved} → (r .idx ≡ frontIdx t → ⊥) → m ≡ movedFront Bwd t (r .idx) s rs → m ≡ moved Bwd t s rs
-      unfolding moved
-      bwd-other h f = other-end (notMoved t) e z at-front then-front (frontIdx t) h f
-
-  module _ (e : r ≡ search Unk (frontOf s) (frontIdx t) rs) where
-    pub unk-refused : {m : Moved} → (r .answer .number ≡ 0 → ⊥) → m ≡ notMoved t (r .answer) → m ≡ moved Unk t s rs
-    unfolding moved
-    unk-refused h f = after-no (notMoved t) e _ h f
-
-    pub unk-other : {m : Moved} → r .answer .number ≡ 0 → m ≡ movedBack Unk t (r .idx) true s rs → m ≡ moved Unk t s rs
-    unfolding moved
-    unk-other z f = after-yes (notMoved t) e z (λ (i : ℕ). movedBack Unk t i true s rs) f
+      pub second-found : {m : Moved} → q .answer .number ≡ 0 → m ≡ movedTo (r .idx) (q .idx) (both && eqb (r .idx) (q .idx)) → m ≡ movedEnds dir both x i y k rs
+      second-found w f = went-on h (after-yes (notMoved i k) d w (λ (j : ℕ). movedTo (r .idx) j (both && eqb (r .idx) j)) f)
 
 -- ---- a call that is done leaves both indices below the count
 abbrev Placed : List PathResCoeff → Moved → Type 0
 Placed rs m = m .answer .number ≡ 0 → (m .answer ≡ done) × (frontIdx (m .strap) < length rs) × (backIdx (m .strap) < length rs)
 
 module _ (rs : List PathResCoeff) where
-  after-placed : (t : Strap) (found : Searched) (next : Moved) → Within rs found → (found .idx < length rs → Placed rs next) → Placed rs (afterSearch (notMoved t) found next)
-  after-placed t found next w h = go (isDone (found .answer)) refl
+  after-placed : (i k : ℕ) (found : Searched) (next : Moved) → Within rs found → (found .idx < length rs → Placed rs next) → Placed rs (afterSearch (notMoved i k) found next)
+  after-placed i k found next w h = go (isDone (found .answer)) refl
     where
-      go : (b : Bool) → isDone (found .answer) ≡ b → Placed rs (cond b next (notMoved t (found .answer)))
+      go : (b : Bool) → isDone (found .answer) ≡ b → Placed rs (cond b next (notMoved i k (found .answer)))
       go true e z = h (w (eqb-true (found .answer .number) 0 e) .1) z
       go false e z = absurd (eqb-false (found .answer .number) 0 e z)
 
-  -- i is the index found, k where the other end stands
-  unless-placed : (i k : ℕ) (same other : Moved) → (i ≡ k → Placed rs same) → Placed rs other → Placed rs (cond (eqb i k) same other)
-  unless-placed i k same other g h = go (eqb i k) refl
-    where
-      go : (b : Bool) → eqb i k ≡ b → Placed rs (cond b same other)
-      go true e = g (eqb-true i k e)
-      go false e = h
+  serves-placed : (b : Bool) (same other : Moved) → (b ≡ true → Placed rs same) → Placed rs other → Placed rs (cond b same other)
+  serves-placed true same other g h = g refl
+  serves-placed false same other g h = h
+
+  ends-placed : (dir : Dir) (both : Bool) (x : Float) (i : ℕ) (y : Float) (k : ℕ) → Placed rs (movedEnds dir both x i y k rs)
+  unfolding movedEnds
+  ends-placed dir both x i y k =
+      after-placed i k _ _ (search-within dir x i rs)
+      (λ f. serves-placed (not both && eqb (search dir x i rs .idx) k) (movedTo (search dir x i rs .idx) k true) _
+      (λ e z. (refl, f, subst (λ (j : ℕ). j < length rs) (eqb-true _ k (and-both (not both) _ e .1)) f))
+      (after-placed i k _ _ (search-within dir y k rs) (λ b z. (refl, f, b))))
 
 module _ (t : Strap) (s : TrainState) (rs : List PathResCoeff) where
-  back-placed : (dir : Dir) (front : ℕ) (asks : Bool) → front < length rs → Placed rs (movedBack dir t front asks s rs)
-  unfolding movedBack
-  back-placed dir front asks h = after-placed rs t _ _ (search-within dir (backOf s) (backIdx t) rs) (λ b z. (refl, h, b))
-
-  front-placed : (dir : Dir) (back : ℕ) → back < length rs → Placed rs (movedFront dir t back s rs)
-  unfolding movedFront
-  front-placed dir back h = after-placed rs t _ _ (search-within dir (frontOf s) (frontIdx t) rs) (λ f z. (refl, f, h))
-
   moved-placed : (dir : Dir) → Placed rs (moved dir t s rs)
   unfolding moved
-  moved-placed Fwd =
-      after-placed rs t _ _ (search-within Fwd (frontOf s) (frontIdx t) rs)
-      (λ f. unless-placed rs _ (backIdx t) _ _ (λ e z. (refl, f, subst (λ (i : ℕ). i < length rs) e f)) (back-placed Fwd _ false f))
-  moved-placed Bwd =
-      after-placed rs t _ _ (search-within Bwd (backOf s) (backIdx t) rs)
-      (λ b. unless-placed rs _ (frontIdx t) _ _ (λ e z. (refl, subst (λ (i : ℕ). i < length rs) e b, b)) (front-placed Bwd _ b))
-  moved-placed Unk = after-placed rs t _ _ (search-within Unk (frontOf s) (frontIdx t) rs) (λ f. back-placed Unk _ true f)
+  moved-placed Fwd = ends-placed rs Fwd false (frontOf s) (frontIdx t) (backOf s) (backIdx t)
+  moved-placed Bwd = λ z. let p = ends-placed rs Bwd false (backOf s) (backIdx t) (frontOf s) (frontIdx t) z in (p .0, p .2, p .1)
+  moved-placed Unk = ends-placed rs Unk true (frontOf s) (frontIdx t) (backOf s) (backIdx t)
 
 -- ---- the coefficient at two indices; g is the front's record as the code reads it
 module _ {one : Bool} (t : Strap) (s : TrainState) (rs : List PathResCoeff) {g : PathResCoeff} (e : g ≡ coeffAt rs (frontIdx t)) where

@@ -1,6 +1,6 @@
 -- `Strap`, R68 to R72: path_res.rs. Definitions only.
 use Prim.Native.Nat.{ℕ, _-_}
-use mathlib.Core.Bool.{Bool, true, false, _&&_, cond}
+use mathlib.Core.Bool.{Bool, true, false, not, _&&_, cond}
 use mathlib.Core.List.{List, [], _∷_, _++_}
 use lib.Dec.{leb, eqb}
 use lib.ListN.{length}
@@ -45,31 +45,29 @@ abbrev pub movedTo : ℕ → ℕ → Bool → Moved
 movedTo front back one = record { answer = done; strap = strapOf front back; one = one }
 
 -- a refusal hands the indices back as they came
-abbrev pub notMoved : Strap → Answer → Moved
-notMoved t a = record { answer = a; strap = t; one = false }
+abbrev pub notMoved : ℕ → ℕ → Answer → Moved
+notMoved front back a = record { answer = a; strap = strapOf front back; one = false }
 
--- the back searched for, the front being found already; only Unk asks after it whether the two indices are equal
-unfoldable pub movedBack : Dir → Strap → ℕ → Bool → TrainState → List PathResCoeff → Moved
+-- front and back exchanged
+abbrev pub turned : Moved → Moved
+turned m = record { answer = m .answer; strap = strapOf (backIdx (m .strap)) (frontIdx (m .strap)); one = m .one }
+
+-- the end at x from index i, and then the other at y from k, unless the first is found at k; `both` in any case, and only there are the two compared after it
+unfoldable pub movedEnds : Dir → Bool → Float → ℕ → Float → ℕ → List PathResCoeff → Moved
 unfolding search
-movedBack dir t front asks s rs = let back = search dir (backOf s) (backIdx t) rs in afterSearch (notMoved t) back (movedTo front (back .idx) (asks && eqb front (back .idx)))
+movedEnds dir both x i y k rs =
+    let first = search dir x i rs in
+    let second = search dir y k rs in
+    afterSearch (notMoved i k) first
+    (cond (not both && eqb (first .idx) k) (movedTo (first .idx) k true)
+    (afterSearch (notMoved i k) second (movedTo (first .idx) (second .idx) (both && eqb (first .idx) (second .idx)))))
 
--- the front searched for, the back being found already
-unfoldable pub movedFront : Dir → Strap → ℕ → TrainState → List PathResCoeff → Moved
-unfolding search
-movedFront dir t back s rs = let front = search dir (frontOf s) (frontIdx t) rs in afterSearch (notMoved t) front (movedTo (front .idx) back false)
-
--- R69: the indices are compared before the other end is searched, and not again
+-- R69: the front first, for Bwd the back; Unk searches for both
 unfoldable pub moved : Dir → Strap → TrainState → List PathResCoeff → Moved
-unfolding search movedBack movedFront
-moved Fwd t s rs =
-    let front = search Fwd (frontOf s) (frontIdx t) rs in
-    afterSearch (notMoved t) front (cond (eqb (front .idx) (backIdx t)) (movedTo (front .idx) (backIdx t) true) (movedBack Fwd t (front .idx) false s rs))
-moved Bwd t s rs =
-    let back = search Bwd (backOf s) (backIdx t) rs in
-    afterSearch (notMoved t) back (cond (eqb (back .idx) (frontIdx t)) (movedTo (frontIdx t) (back .idx) true) (movedFront Bwd t (back .idx) s rs))
-moved Unk t s rs =
-    let front = search Unk (frontOf s) (frontIdx t) rs in
-    afterSearch (notMoved t) front (movedBack Unk t (front .idx) true s rs)
+unfolding movedEnds
+moved Fwd t s rs = movedEnds Fwd false (frontOf s) (frontIdx t) (backOf s) (backIdx t) rs
+moved Bwd t s rs = turned (movedEnds Bwd false (backOf s) (backIdx t) (frontOf s) (frontIdx t) rs)
+moved Unk t s rs = movedEnds Unk true (frontOf s) (frontIdx t) (backOf s) (backIdx t) rs
 
 -- ---- the resistance at two indices
 

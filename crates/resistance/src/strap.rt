@@ -18,7 +18,6 @@ use train::train_state::state_finite;
 ghost use mathlib.Core.Path.{_≡_};
 ghost use Prim.Native.Nat.{_*_, _≤_, _<_};
 ghost use lib.ListN.{length};
-ghost use Rattle.lookup.specs.declared.lin_search_hint.Dir.the-variants as Dirs;
 ghost use Rattle.lookup.specs.Coeff.{coeffs};
 ghost use Rattle.resistance.specs.Listed.{resCoeffOf, resNetOf};
 ghost use Rattle.resistance.specs.Strap as spec;
@@ -53,12 +52,15 @@ pub struct Moved {
 }
 
 // A search that is refused: the indices as they came.
-fn not_moved(strap: Strap, answer: Answer) -> Moved
-    ensures { λ r. ⌜ r ≡ spec.notMoved strap answer ⌝ }
+fn not_moved(idx_front: usize, idx_back: usize, answer: Answer) -> Moved
+    ensures { λ r. ⌜ r ≡ spec.notMoved «idx_front» «idx_back» answer ⌝ }
 {
     Moved {
         answer,
-        strap,
+        strap: Strap {
+            idx_front,
+            idx_back,
+        },
         one: false,
     }
 }
@@ -77,101 +79,50 @@ fn moved_to(idx_front: usize, idx_back: usize, one: bool) -> Moved
     }
 }
 
-// The back is searched for; front is found already. asks: whether the two indices are compared after it.
-fn moved_back(
-    strap: Strap,
-    front: usize,
-    asks: bool,
+// Front and back exchanged.
+fn turned(m: Moved) -> Moved
+    ensures { λ r. ⌜ r ≡ spec.turned m ⌝ }
+{
+    let answer = m.answer;
+    Moved {
+        answer,
+        strap: Strap {
+            idx_front: m.strap.idx_back,
+            idx_back: m.strap.idx_front,
+        },
+        one: m.one,
+    }
+}
+
+// The end at x from index i, and then the other at y from k, unless the first is found at k; with `both` in any case, and the two are compared after it.
+fn moved_ends(
+    x: Length,
+    i: usize,
+    y: Length,
+    k: usize,
+    both: bool,
     col: &[f64],
     n: usize,
-    state: TrainState,
     dir: Dir,
 ) -> Moved
     requires { ⌜ 0 < n ⌝ }
     requires { ⌜ 3 * n ≤ length (now col) ⌝ }
-    ensures { λ r. ⌜ r ≡ spec.movedBack dir strap front asks state (coeffs n (now (col .entry))) ⌝ }
+    ensures { λ r. ⌜ r ≡ spec.movedEnds dir both (x .0) i (y .0) k (coeffs n (now (col .entry))) ⌝ }
 {
-    let back = search(col, n, Length(state.offset_back.0), strap.idx_back, dir);
-    let answer = back.answer;
+    let first = search(col, n, x, i, dir);
+    let answer = first.answer;
     if answer.number != 0 {
-        return not_moved(strap, answer);
+        return not_moved(i, k, answer);
     }
-    moved_to(front, back.idx, asks & (front == back.idx))
-}
-
-// The front is searched for; back is found already.
-fn moved_front(
-    strap: Strap,
-    back: usize,
-    col: &[f64],
-    n: usize,
-    state: TrainState,
-    dir: Dir,
-) -> Moved
-    requires { ⌜ 0 < n ⌝ }
-    requires { ⌜ 3 * n ≤ length (now col) ⌝ }
-    ensures { λ r. ⌜ r ≡ spec.movedFront dir strap back state (coeffs n (now (col .entry))) ⌝ }
-{
-    let front = search(col, n, Length(state.offset.0), strap.idx_front, dir);
-    let answer = front.answer;
-    if answer.number != 0 {
-        return not_moved(strap, answer);
+    if !both & (first.idx == k) {
+        return moved_to(first.idx, k, true);
     }
-    moved_to(front.idx, back, false)
-}
-
-// Fwd: the front, and then the back unless it is there already.
-fn moved_fwd(strap: Strap, col: &[f64], n: usize, state: TrainState) -> Moved
-    requires { ⌜ 0 < n ⌝ }
-    requires { ⌜ 3 * n ≤ length (now col) ⌝ }
-    ensures { λ r. ⌜ r ≡ spec.moved Dirs.Fwd strap state (coeffs n (now (col .entry))) ⌝ }
-{
-    let front = search(col, n, Length(state.offset.0), strap.idx_front, Dir::Fwd);
-    let answer = front.answer;
-    if answer.number != 0 {
-        return not_moved(strap, answer);
+    let second = search(col, n, y, k, dir);
+    let last = second.answer;
+    if last.number != 0 {
+        return not_moved(i, k, last);
     }
-    if front.idx == strap.idx_back {
-        return moved_to(front.idx, strap.idx_back, true);
-    }
-    moved_back(strap, front.idx, false, col, n, state, Dir::Fwd)
-}
-
-// Bwd: the back, and then the front unless it is there already.
-fn moved_bwd(strap: Strap, col: &[f64], n: usize, state: TrainState) -> Moved
-    requires { ⌜ 0 < n ⌝ }
-    requires { ⌜ 3 * n ≤ length (now col) ⌝ }
-    ensures { λ r. ⌜ r ≡ spec.moved Dirs.Bwd strap state (coeffs n (now (col .entry))) ⌝ }
-{
-    let back = search(
-        col,
-        n,
-        Length(state.offset_back.0),
-        strap.idx_back,
-        Dir::Bwd,
-    );
-    let answer = back.answer;
-    if answer.number != 0 {
-        return not_moved(strap, answer);
-    }
-    if back.idx == strap.idx_front {
-        return moved_to(strap.idx_front, back.idx, true);
-    }
-    moved_front(strap, back.idx, col, n, state, Dir::Bwd)
-}
-
-// Unk: the front, and then the back.
-fn moved_unk(strap: Strap, col: &[f64], n: usize, state: TrainState) -> Moved
-    requires { ⌜ 0 < n ⌝ }
-    requires { ⌜ 3 * n ≤ length (now col) ⌝ }
-    ensures { λ r. ⌜ r ≡ spec.moved Dirs.Unk strap state (coeffs n (now (col .entry))) ⌝ }
-{
-    let front = search(col, n, Length(state.offset.0), strap.idx_front, Dir::Unk);
-    let answer = front.answer;
-    if answer.number != 0 {
-        return not_moved(strap, answer);
-    }
-    moved_back(strap, front.idx, true, col, n, state, Dir::Unk)
+    moved_to(first.idx, second.idx, both & (first.idx == second.idx))
 }
 
 // The two indices after the searches of a direction.
@@ -180,10 +131,14 @@ pub fn moved_by(strap: Strap, col: &[f64], n: usize, state: TrainState, dir: Dir
     requires { ⌜ 3 * n ≤ length (now col) ⌝ }
     ensures { λ r. ⌜ r ≡ spec.moved dir strap state (coeffs n (now (col .entry))) ⌝ }
 {
+    let front = strap.idx_front;
+    let back = strap.idx_back;
+    let x = Length(state.offset.0);
+    let y = Length(state.offset_back.0);
     match dir {
-        Dir::Fwd => moved_fwd(strap, col, n, state),
-        Dir::Bwd => moved_bwd(strap, col, n, state),
-        Dir::Unk => moved_unk(strap, col, n, state),
+        Dir::Fwd => moved_ends(x, front, y, back, false, col, n, Dir::Fwd),
+        Dir::Bwd => turned(moved_ends(y, back, x, front, false, col, n, Dir::Bwd)),
+        Dir::Unk => moved_ends(x, front, y, back, true, col, n, Dir::Unk),
     }
 }
 
