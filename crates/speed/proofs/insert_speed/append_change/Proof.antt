@@ -4,6 +4,8 @@ use Prim.Native.Nat.{_+_, _-_}
 use native.Mathlib.Omega.{arith}
 use mathlib.Core.List.{List, [], _∷_, _++_, append-assoc}
 use lib.ListN.{length, length-set}
+use lib.Ieee as Ieee
+use lib.Ieee.{Float}
 use Rattle.column.specs.Entries.{insertAt}
 use Rattle.speed.specs.Points.{Point, point, offsetAt, speedAt, setOffset}
 use Rattle.speed.specs.Column.{points}
@@ -60,7 +62,7 @@ returns c =
     (insert-end (a .n + 1) q (points (a .n + 1) d) (length-points (a .n + 1) d)
     ∙ ap (λ (l : List Point). l ++ q ∷ []) once
     ∙ append-assoc ps (p ∷ []) (q ∷ [])
-    ∙ sym (change-after (a .n - 1) s e (a .u .0) (a .w .0) ps (cc)))
+    ∙ sym (change-after (a .n - 1) s e (a .u .0) (a .w .0) ps (sym (ap (λ (x : Float). Ieee.lt x s) (c .before .before .before .before .before .before .before .before .before .before .before .offset-at .ensures)) ∙ c .before .before .before .before .before .before .before .before .if1 .taken)))
 
 sub-repeats-before : tie.Need-sub-repeats-before
 sub-repeats-before c = search needs
@@ -87,7 +89,7 @@ returns-2 c =
     let count : a .n ≡ length qs = sym (length-set ps (a .n - 1) (point e (speedAt ps (a .n - 1))) ∙ length-points (a .n) (a .col .now)) in
     leaves-at (c .before .before .set-offset .last .0) (a .n) qs (appendChange (a .n - 1) s e (a .u .0) (a .w .0) ps)
     (record { count = count; holds = c .before .before .set-offset .ensures })
-    (sym (change-moved (a .n - 1) s e (a .u .0) (a .w .0) ps (cc) (cc)))
+    (sym (change-moved (a .n - 1) s e (a .u .0) (a .w .0) ps (sym (ap (λ (x : Float). Ieee.lt x s) (c .before .before .before .before .before .before .before .before .before .before .offset-at .ensures)) ∙ c .before .before .before .before .before .before .before .if1 .left) (sym (c .before .before .before .before .before .repeats-before .ensures) ∙ c .before .before .before .before .if2 .taken)))
 
 sub-set-speed : tie.Need-sub-set-speed
 sub-set-speed c = search needs
@@ -123,7 +125,7 @@ returns-3 c =
     (record { count = count; holds = c .before .before .insert-point3 .ensures })
     (insert-end (a .n) q (points (a .n) d) (length-points (a .n) d)
     ∙ ap (λ (l : List Point). l ++ q ∷ []) (next .0)
-    ∙ sym (change-at (a .n - 1) s e (a .u .0) (a .w .0) ps (cc) (cc)))
+    ∙ sym (change-at (a .n - 1) s e (a .u .0) (a .w .0) ps (sym (ap (λ (x : Float). Ieee.lt x s) (c .before .before .before .before .before .before .before .before .before .before .before .before .before .before .offset-at .ensures)) ∙ c .before .before .before .before .before .before .before .before .before .before .before .if1 .left) (sym (c .before .before .before .before .before .before .before .before .before .repeats-before .ensures) ∙ c .before .before .before .before .before .before .before .before .if2 .left)))
 
 pub append-change-spec : {M : Type 1} → statement M
 append-change-spec =

@@ -1,9 +1,11 @@
 -- `drop_repeat`: by the speed of the point before.
-use mathlib.Core.Path.{_≡_, sym}
+use mathlib.Core.Path.{_≡_, sym, ap, _∙_}
 use Prim.Native.Nat.{_-_, _<_}
 use native.Mathlib.Omega.{arith}
 use lib.ListN.{length}
+use lib.Ieee.{Float}
 use Rattle.column.specs.Entries.{removeAt}
+use Rattle.speed.specs.Points.{repeats}
 use Rattle.speed.specs.Column.{points}
 use Rattle.speed.specs.Insert.{dropRepeat}
 use Rattle.speed.proofs.Held.{length-points, leaves-at}
@@ -36,7 +38,7 @@ returns c =
     let count : a .n - 1 ≡ length (removeAt (a .i) ps) = omega (arith, length-removed (a .i) ps i) in
     leaves-at (c .before .before .remove-point .last .0) (a .n - 1) (removeAt (a .i) ps) (dropRepeat (a .i) ps)
     (record { count = count; holds = c .before .before .remove-point .ensures })
-    (sym (repeat-dropped (a .i) ps (cc)))
+    (sym (repeat-dropped (a .i) ps (sym (c .before .before .before .before .before .repeats-before .ensures ∙ ap (λ (x : Float). repeats (a .i) x ps) (c .before .before .before .before .before .before .before .speed-at .ensures)) ∙ c .before .before .before .before .if1 .taken)))
 
 same-length-2 : tie.Need-same-length-2
 same-length-2 c = search needs
@@ -45,7 +47,7 @@ returns-2 : tie.Need-returns-2
 returns-2 c =
     let a = c .before .before .before .before .before .before .args in
     let ps = points (a .n) (a .col .now) in
-    leaves-at (a .col .now) (a .n) ps (dropRepeat (a .i) ps) (record { count = sym (length-points (a .n) (a .col .now)); holds = c .before .before .before .before .before .before .pre .1 .1 }) (sym (repeat-kept (a .i) ps (cc)))
+    leaves-at (a .col .now) (a .n) ps (dropRepeat (a .i) ps) (record { count = sym (length-points (a .n) (a .col .now)); holds = c .before .before .before .before .before .before .pre .1 .1 }) (sym (repeat-kept (a .i) ps (sym (c .before .repeats-before .ensures ∙ ap (λ (x : Float). repeats (a .i) x ps) (c .before .before .before .speed-at .ensures)) ∙ c .if1 .left)))
 
 pub drop-repeat-spec : {M : Type 1} → statement M
 drop-repeat-spec =

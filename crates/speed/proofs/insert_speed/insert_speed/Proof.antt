@@ -1,5 +1,7 @@
 -- `insert_speed`: by whether the last point is at or before the start.
-use mathlib.Core.Path.{sym}
+use mathlib.Core.Path.{sym, ap, _∙_}
+use lib.Ieee as Ieee
+use lib.Ieee.{Float}
 use Rattle.speed.specs.Column.{points}
 use Rattle.speed.specs.Insert.{appendLimit, layLimit, insertSpeed}
 use Rattle.speed.proofs.Held.{length-points, leaves-at}
@@ -29,10 +31,10 @@ returns c =
     let v = a .l .speed .0 in
     leaves-at (c .before .before .append-limit .last .0) (c .before .before .append-limit .result) (appendLimit s e v ps) (insertSpeed ps s e v)
     (c .before .before .append-limit .ensures)
-    (sym (insert-append s e v ps (a .n) (length-points (a .n) (a .col .now)) (cc)))
+    (sym (insert-append s e v ps (a .n) (length-points (a .n) (a .col .now)) (sym (ap (λ (x : Float). Ieee.le x s) (c .before .before .before .before .before .before .before .offset-at .ensures)) ∙ c .before .before .before .before .if1 .taken)))
 
 lay-limit-requires : tie.Need-lay-limit-requires
-lay-limit-requires c κs = (c .before .before .before .before .before .before .before .pre .0, (c .before .before .before .before .before .before .before .pre .1 .0, (c .before .before .before .before .before .before .before .pre .1 .1, (cc))))
+lay-limit-requires c κs = (c .before .before .before .before .before .before .before .pre .0, (c .before .before .before .before .before .before .before .pre .1 .0, (c .before .before .before .before .before .before .before .pre .1 .1, (sym (ap (λ (x : Float). Ieee.le x (c .before .before .before .before .before .before .before .args .l .«offset_start» .0)) (c .before .before .before .before .offset-at .ensures)) ∙ c .before .if1 .left))))
 
 same-length-2 : tie.Need-same-length-2
 same-length-2 c = search needs
@@ -46,7 +48,7 @@ returns-2 c =
     let v = a .l .speed .0 in
     leaves-at (c .before .before .lay-limit .last .0) (c .before .before .lay-limit .result) (layLimit s e v ps) (insertSpeed ps s e v)
     (c .before .before .lay-limit .ensures)
-    (sym (insert-lay s e v ps (a .n) (length-points (a .n) (a .col .now)) (cc)))
+    (sym (insert-lay s e v ps (a .n) (length-points (a .n) (a .col .now)) (sym (ap (λ (x : Float). Ieee.le x s) (c .before .before .before .before .before .before .before .offset-at .ensures)) ∙ c .before .before .before .before .if1 .left)))
 
 pub insert-speed-spec : {M : Type 1} → statement M
 insert-speed-spec =

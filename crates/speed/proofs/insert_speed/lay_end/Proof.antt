@@ -51,7 +51,7 @@ returns c =
     leaves-at (c .before .before .merge-range .last .0) (c .before .before .merge-range .result) (merge v (a .j + 1 - a .i) (a .i) (points (a .n + 1) d)) (layEnd e v (a .i) (a .j) ps)
     (c .before .before .merge-range .ensures)
     (ap (merge v (a .j + 1 - a .i) (a .i)) (next .0 ∙ ap (λ (x : Float). insertAt (a .j + 1) (point e x) ps) (c .before .before .before .before .before .before .before .before .speed-at .ensures))
-    ∙ sym (end-laid e v (a .i) (a .j) ps (cc)))
+    ∙ sym (end-laid e v (a .i) (a .j) ps (sym (c .before .before .before .before .before .before .before .before .before .before .before .ends-after .ensures) ∙ c .before .before .before .before .before .before .before .before .before .before .if1 .taken)))
 
 merge-range-requires-2 : tie.Need-merge-range-requires-2
 merge-range-requires-2 c κs = (omega arith, (omega arith, (omega arith, c .before .before .before .before .before .pre .1 .1 .1)))
@@ -67,7 +67,7 @@ returns-2 c =
     let v = a .v .0 in
     leaves-at (c .before .before .merge-range2 .last .0) (c .before .before .merge-range2 .result) (merge v (a .j - a .i) (a .i) ps) (layEnd e v (a .i) (a .j) ps)
     (c .before .before .merge-range2 .ensures)
-    (sym (end-kept e v (a .i) (a .j) ps (cc)))
+    (sym (end-kept e v (a .i) (a .j) ps (sym (c .before .before .before .before .before .ends-after .ensures) ∙ c .before .before .before .before .if1 .left)))
 
 pub lay-end-spec : {M : Type 1} → statement M
 lay-end-spec =

@@ -1,7 +1,8 @@
 -- `lay_start`: by whether the start gets a point of its own.
-use mathlib.Core.Path.{_≡_, sym, ap, _∙_}
+use mathlib.Core.Path.{_≡_, sym, ap, ap₂, _∙_}
 use Prim.Native.Nat.{_+_, _-_}
 use native.Mathlib.Omega.{arith}
+use lib.Ieee as Ieee
 use lib.Ieee.{Float}
 use Rattle.ieee.specs.Speed.{minSpeed}
 use Rattle.column.specs.Entries.{insertAt}
@@ -56,12 +57,13 @@ returns c =
     let v = a .l .speed .0 in
     let d = c .before .before .before .before .before .before .insert-point .last .0 in
     let w = c .before .before .before .before .before .before .before .before .before .before .before .min-speed .result .0 in
-    let f : w ≡ minSpeed (speedAt ps (a .i - 1)) v = cc in
+    let u = c .before .before .before .before .before .before .before .before .before .before .before .before .speed-at .ensures ∙ ap (speedAt ps) (c .before .before .before .before .before .before .before .before .before .before .before .before .before .index-before .ensures) in
+    let f : w ≡ minSpeed (speedAt ps (a .i - 1)) v = c .before .before .before .before .before .before .before .before .before .before .before .min-speed .ensures ∙ ap (λ (x : Float). minSpeed x v) u in
     let next = next-inserted (a .col .now) d (a .n) (a .i) (point s w) (c .before .before .before .before .before .before .insert-point .ensures) in
     leaves-at (c .before .before .lay-end .last .0) (c .before .before .lay-end .result) (layEnd e v (a .i + 1) (a .j + 1) (points (a .n + 1) d)) (layStart s e v (a .i) (a .j) ps)
     (c .before .before .lay-end .ensures)
     (ap (layEnd e v (a .i + 1) (a .j + 1)) (next .0 ∙ ap (λ (x : Float). insertAt (a .i) (point s x) ps) f)
-    ∙ sym (start-laid s e v (a .i) (a .j) ps (cc) (cc)))
+    ∙ sym (start-laid s e v (a .i) (a .j) ps (sym (ap (Ieee.lt s) (c .before .before .before .before .before .before .before .before .before .before .before .before .before .before .before .before .before .before .offset-at .ensures)) ∙ c .before .before .before .before .before .before .before .before .before .before .before .before .before .before .before .if1 .taken) (sym (ap₂ Ieee.ne u f) ∙ c .before .before .before .before .before .before .before .before .if2 .taken)))
 
 lay-end-requires-2 : tie.Need-lay-end-requires-2
 lay-end-requires-2 c κs = (omega arith, (omega arith, (omega arith, c .before .before .before .before .before .before .before .before .before .before .before .before .before .before .before .before .before .pre .1 .1 .1)))
@@ -76,9 +78,11 @@ returns-2 c =
     let s = a .l .«offset_start» .0 in
     let e = a .l .«offset_end» .0 in
     let v = a .l .speed .0 in
+    let u = c .before .before .before .before .before .before .before .before .speed-at .ensures ∙ ap (speedAt ps) (c .before .before .before .before .before .before .before .before .before .index-before .ensures) in
+    let f = c .before .before .before .before .before .before .before .min-speed .ensures ∙ ap (λ (x : Float). minSpeed x v) u in
     leaves-at (c .before .before .lay-end2 .last .0) (c .before .before .lay-end2 .result) (layEnd e v (a .i) (a .j) ps) (layStart s e v (a .i) (a .j) ps)
     (c .before .before .lay-end2 .ensures)
-    (sym (start-same s e v (a .i) (a .j) ps (cc) (cc)))
+    (sym (start-same s e v (a .i) (a .j) ps (sym (ap (Ieee.lt s) (c .before .before .before .before .before .before .before .before .before .before .before .before .before .before .offset-at .ensures)) ∙ c .before .before .before .before .before .before .before .before .before .before .before .if1 .taken) (sym (ap₂ Ieee.ne u f) ∙ c .before .before .before .before .if2 .left)))
 
 lay-end-requires-3 : tie.Need-lay-end-requires-3
 lay-end-requires-3 c κs = (omega arith, (omega arith, (omega arith, c .before .before .before .before .before .before .before .before .before .before .pre .1 .1 .1)))
@@ -95,7 +99,7 @@ returns-3 c =
     let v = a .l .speed .0 in
     leaves-at (c .before .before .lay-end3 .last .0) (c .before .before .lay-end3 .result) (layEnd e v (a .i) (a .j) ps) (layStart s e v (a .i) (a .j) ps)
     (c .before .before .lay-end3 .ensures)
-    (sym (start-kept s e v (a .i) (a .j) ps (cc)))
+    (sym (start-kept s e v (a .i) (a .j) ps (sym (ap (Ieee.lt s) (c .before .before .before .before .before .before .before .offset-at .ensures)) ∙ c .before .before .before .before .if1 .left)))
 
 pub lay-start-spec : {M : Type 1} → statement M
 lay-start-spec =

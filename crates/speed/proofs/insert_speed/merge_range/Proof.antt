@@ -5,7 +5,7 @@ use native.Mathlib.Omega.{arith}
 use lib.ListN.{length}
 use lib.Ieee.{Float}
 use Rattle.ieee.specs.Speed.{minSpeed}
-use Rattle.speed.specs.Points.{point, offsetAt, speedAt, setSpeed}
+use Rattle.speed.specs.Points.{point, offsetAt, speedAt, setSpeed, repeats}
 use Rattle.speed.specs.Column.{points, Holds}
 use Rattle.speed.specs.Insert.{merge, dropRepeat}
 use Rattle.speed.proofs.Held.{next-removed, next-set, leaves-at}
@@ -49,13 +49,14 @@ loop-again c =
     let v = c .before .before .before .before .before .before .before .before .before .before .before .before .before .args .v .0 in
     let ps = points (l .m) (l .col) in
     let d = c .before .before .remove-point .last .0 in
+    let e = c .before .before .before .before .before .before .before .min-speed .ensures ∙ ap (λ (x : Float). minSpeed x v) (c .before .before .before .before .before .before .before .before .speed-at .ensures) in
     let next = next-removed (l .col) d (l .m) (l .a) (l .inv .0) (c .before .before .remove-point .ensures) in (
       omega arith,
       omega arith,
       omega arith,
       c .before .before .remove-point .kept .0 ∙ l .inv .3,
       next .1,
-      l .inv .5 ∙ merge-removed v (l .a) (l .b) ps (c .before .before .before .before .before .before .before .before .before .before .loop-test .taken) (cc) ∙ ap (merge v (l .b - 1 - l .a) (l .a)) (sym (next .0)),
+      l .inv .5 ∙ merge-removed v (l .a) (l .b) ps (c .before .before .before .before .before .before .before .before .before .before .loop-test .taken) (sym (c .before .before .before .before .before .repeats-before .ensures ∙ ap (λ (x : Float). repeats (l .a) x ps) e) ∙ c .before .before .before .before .if1 .taken) ∙ ap (merge v (l .b - 1 - l .a) (l .a)) (sym (next .0)),
     )
 
 set-speed-requires : tie.Need-set-speed-requires Inv-loop μ-loop
@@ -74,14 +75,14 @@ loop-again-2 c =
     let ps = points (l .m) (l .col) in
     let d = c .before .before .set-speed .last .0 in
     let w = c .before .before .before .before .before .before .before .min-speed .result .0 in
-    let e : w ≡ minSpeed (speedAt ps (l .a)) v = cc in
+    let e : w ≡ minSpeed (speedAt ps (l .a)) v = c .before .before .before .before .before .before .before .min-speed .ensures ∙ ap (λ (x : Float). minSpeed x v) (c .before .before .before .before .before .before .before .before .speed-at .ensures) in
     let next = next-set (l .col) d (l .m) (l .a) (point (offsetAt ps (l .a)) w) (c .before .before .set-speed .ensures) in (
       omega arith,
       l .inv .1,
       l .inv .2,
       c .before .before .set-speed .kept .0 ∙ l .inv .3,
       next .1,
-      l .inv .5 ∙ merge-stored v (l .a) (l .b) ps (c .before .before .before .before .before .before .before .before .before .before .loop-test .taken) (cc) ∙ ap (merge v (l .b - (l .a + 1)) (l .a + 1)) (ap (λ (x : Float). setSpeed (l .a) x ps) (sym e) ∙ sym (next .0)),
+      l .inv .5 ∙ merge-stored v (l .a) (l .b) ps (c .before .before .before .before .before .before .before .before .before .before .loop-test .taken) (sym (c .before .before .before .before .before .repeats-before .ensures ∙ ap (λ (x : Float). repeats (l .a) x ps) e) ∙ c .before .before .before .before .if1 .left) ∙ ap (merge v (l .b - (l .a + 1)) (l .a + 1)) (ap (λ (x : Float). setSpeed (l .a) x ps) (sym e) ∙ sym (next .0)),
     )
 
 drop-repeat-requires : tie.Need-drop-repeat-requires Inv-loop μ-loop

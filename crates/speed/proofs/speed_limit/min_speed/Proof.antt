@@ -1,7 +1,9 @@
 -- `min_speed`: by the two sign bits.
-use mathlib.Core.Path.{_≡_}
+use mathlib.Core.Path.{_≡_, sym, ap, ap₂, _∙_}
 use mathlib.Core.Bool.{true, false}
+use lib.Ieee.{neg}
 use Rattle.ieee.specs.Number.{sign}
+use Rattle.ieee.specs.Speed.{smaller}
 use Rattle.ieee.proofs.Speed.{minSpeed-set, minSpeed-clear}
 use borrow.Author.Needs.{needs}
 use Rattle.speed.proofs.speed_limit.min_speed.Statement.{statement}
@@ -23,8 +25,8 @@ returns : tie.Need-returns
 returns c =
     let a = c .before .before .before .before .before .args .speed-old .0 in
     let b = c .before .before .before .before .before .args .speed-new .0 in
-    let s : sign a ≡ true = cc in
-    cc (minSpeed-set a b (rw s))
+    let s : sign a ≡ true = sym (c .before .before .before .before .is-negative .ensures) ∙ c .before .before .before .if1 .taken in
+    ap neg (c .lesser .ensures ∙ ap₂ smaller (c .before .before .size .ensures) (c .before .size2 .ensures)) ∙ sym (minSpeed-set a b (rw s))
 
 is-negative-requires-2 : tie.Need-is-negative-requires-2
 is-negative-requires-2 c κs = search needs
@@ -42,9 +44,9 @@ returns-2 : tie.Need-returns-2
 returns-2 c =
     let a = c .before .before .before .before .before .before .before .args .speed-old .0 in
     let b = c .before .before .before .before .before .before .before .args .speed-new .0 in
-    let s : sign a ≡ false = cc in
-    let t : sign b ≡ true = cc in
-    cc (minSpeed-set a b (rw (s, t)))
+    let s : sign a ≡ false = sym (c .before .before .before .before .before .before .is-negative .ensures) ∙ c .before .before .before .before .before .if1 .left in
+    let t : sign b ≡ true = sym (c .before .before .before .before .is-negative2 .ensures) ∙ c .before .before .before .if2 .taken in
+    ap neg (c .lesser2 .ensures ∙ ap₂ smaller (c .before .before .size3 .ensures) (c .before .size4 .ensures)) ∙ sym (minSpeed-set a b (rw (s, t)))
 
 lesser-requires-3 : tie.Need-lesser-requires-3
 lesser-requires-3 c κs = search needs
@@ -53,7 +55,7 @@ returns-3 : tie.Need-returns-3
 returns-3 c =
     let a = c .before .before .before .before .before .args .speed-old .0 in
     let b = c .before .before .before .before .before .args .speed-new .0 in
-    cc (minSpeed-clear a b (cc) (cc))
+    c .lesser3 .ensures ∙ sym (minSpeed-clear a b (sym (c .before .before .before .before .is-negative .ensures) ∙ c .before .before .before .if1 .left) (sym (c .before .before .is-negative2 .ensures) ∙ c .before .if2 .left))
 
 pub min-speed-spec : {M : Type 1} → statement M
 min-speed-spec =

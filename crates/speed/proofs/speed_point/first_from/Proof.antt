@@ -1,8 +1,10 @@
 -- `first_from`: at each turn the first such point is i after the first of those from i on.
 use Prim.Native.Nat.{_+_, _-_, _≤_}
-use mathlib.Core.Path.{_≡_, sym, _∙_}
+use mathlib.Core.Path.{_≡_, sym, ap, _∙_}
 use native.Mathlib.Nat.{zero-add}
 use lib.ListN.{drop}
+use lib.Ieee as Ieee
+use lib.Ieee.{Float}
 use Rattle.speed.specs.Insert.{firstFrom}
 use native.Mathlib.Omega.{arith}
 use Rattle.speed.specs.Column.{points}
@@ -30,10 +32,10 @@ loop-less : tie.Need-loop-less Inv-loop μ-loop
 loop-less c = omega arith
 
 loop-again : tie.Need-loop-again Inv-loop μ-loop
-loop-again c = (omega arith, c .before .before .before .before .before .loop .inv .1 ∙ first-pass (c .before .before .before .before .before .before .before .args .s .0) (points (c .before .before .before .before .before .before .before .args .n) (c .before .before .before .before .before .before .before .args .col .now)) (c .before .before .before .before .before .loop .i) (omega (arith, length-points (c .before .before .before .before .before .before .before .args .n) (c .before .before .before .before .before .before .before .args .col .now))) (cc))
+loop-again c = (omega arith, c .before .before .before .before .before .loop .inv .1 ∙ first-pass (c .before .before .before .before .before .before .before .args .s .0) (points (c .before .before .before .before .before .before .before .args .n) (c .before .before .before .before .before .before .before .args .col .now)) (c .before .before .before .before .before .loop .i) (omega (arith, length-points (c .before .before .before .before .before .before .before .args .n) (c .before .before .before .before .before .before .before .args .col .now))) (sym (ap (λ (x : Float). Ieee.lt x (c .before .before .before .before .before .before .before .args .s .0)) (c .before .before .before .offset-at .ensures)) ∙ c .if1 .taken))
 
 returns : tie.Need-returns Inv-loop μ-loop
-returns c = sym (c .before .before .before .before .before .loop .inv .1 ∙ first-stop (c .before .before .before .before .before .before .before .args .s .0) (points (c .before .before .before .before .before .before .before .args .n) (c .before .before .before .before .before .before .before .args .col .now)) (c .before .before .before .before .before .loop .i) (omega (arith, length-points (c .before .before .before .before .before .before .before .args .n) (c .before .before .before .before .before .before .before .args .col .now))) (cc))
+returns c = sym (c .before .before .before .before .before .loop .inv .1 ∙ first-stop (c .before .before .before .before .before .before .before .args .s .0) (points (c .before .before .before .before .before .before .before .args .n) (c .before .before .before .before .before .before .before .args .col .now)) (c .before .before .before .before .before .loop .i) (omega (arith, length-points (c .before .before .before .before .before .before .before .args .n) (c .before .before .before .before .before .before .before .args .col .now))) (sym (ap (λ (x : Float). Ieee.lt x (c .before .before .before .before .before .before .before .args .s .0)) (c .before .before .before .offset-at .ensures)) ∙ c .if1 .left))
 
 returns-2 : tie.Need-returns-2 Inv-loop μ-loop
 returns-2 c = sym (c .before .loop .inv .1 ∙ first-end (c .before .before .before .args .s .0) (points (c .before .before .before .args .n) (c .before .before .before .args .col .now)) (c .before .loop .i) (omega (arith, length-points (c .before .before .before .args .n) (c .before .before .before .args .col .now))))

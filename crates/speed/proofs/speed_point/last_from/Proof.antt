@@ -1,6 +1,7 @@
 -- `last_from`: at each turn the last such point is the last of those up to j.
 use Prim.Native.Nat.{_-_, _<_}
-use mathlib.Core.Path.{_≡_, refl, sym, _∙_}
+use mathlib.Core.Path.{_≡_, refl, sym, ap, _∙_}
+use lib.Ieee as Ieee
 use Rattle.speed.specs.Insert.{lastFrom}
 use native.Mathlib.Omega.{arith}
 use Rattle.speed.specs.Column.{points}
@@ -30,10 +31,10 @@ loop-less : tie.Need-loop-less Inv-loop μ-loop
 loop-less c = omega arith
 
 loop-again : tie.Need-loop-again Inv-loop μ-loop
-loop-again c = (omega arith, c .before .before .before .before .before .loop .inv .1 ∙ last-pass (c .before .before .before .before .before .before .before .args .e .0) (c .before .before .before .before .before .loop .j) (points (c .before .before .before .before .before .before .before .args .n) (c .before .before .before .before .before .before .before .args .col .now)) (omega arith) (cc))
+loop-again c = (omega arith, c .before .before .before .before .before .loop .inv .1 ∙ last-pass (c .before .before .before .before .before .before .before .args .e .0) (c .before .before .before .before .before .loop .j) (points (c .before .before .before .before .before .before .before .args .n) (c .before .before .before .before .before .before .before .args .col .now)) (omega arith) (sym (ap (Ieee.lt (c .before .before .before .before .before .before .before .args .e .0)) (c .before .before .before .offset-at .ensures)) ∙ c .if1 .taken))
 
 returns : tie.Need-returns Inv-loop μ-loop
-returns c = sym (c .before .before .before .before .before .loop .inv .1 ∙ last-stop (c .before .before .before .before .before .before .before .args .e .0) (c .before .before .before .before .before .loop .j) (points (c .before .before .before .before .before .before .before .args .n) (c .before .before .before .before .before .before .before .args .col .now)) (cc))
+returns c = sym (c .before .before .before .before .before .loop .inv .1 ∙ last-stop (c .before .before .before .before .before .before .before .args .e .0) (c .before .before .before .before .before .loop .j) (points (c .before .before .before .before .before .before .before .args .n) (c .before .before .before .before .before .before .before .args .col .now)) (sym (ap (Ieee.lt (c .before .before .before .before .before .before .before .args .e .0)) (c .before .before .before .offset-at .ensures)) ∙ c .if1 .left))
 
 returns-2 : tie.Need-returns-2 Inv-loop μ-loop
 returns-2 c = sym (c .before .loop .inv .1 ∙ last-none (c .before .before .before .args .e .0) (c .before .loop .j) (points (c .before .before .before .args .n) (c .before .before .before .args .col .now)) (omega arith))
