@@ -1,5 +1,9 @@
 -- `condition_holds`: the three entries, the kind, and then the comparison.
-use Rattle.link.specs.Condition.{paramOf, holds}
+use mathlib.Core.Path.{ap₂, _∙_}
+use Prim.Native.Nat.{ℕ}
+use lib.Ieee.{Float}
+use Rattle.link.specs.Condition.{paramOf, paramTold, paramHolds, holds}
+use Rattle.link.specs.Table.{conditionAt}
 use Rattle.link.proofs.Conditions.{same-param}
 use borrow.Author.Needs.{needs}
 use Rattle.link.proofs.speed_param.condition_holds.Statement.{statement}
@@ -31,7 +35,12 @@ param-holds-requires c κs = search needs
 
 returns : tie.Need-returns
 unfolding holds
-returns c = cc (same-param (c .before .speed-param .result) (paramOf (c .before .before .before .before .get .result) (c .before .before .get3 .result)) (c .before .speed-param .ensures))
+returns c =
+    let a = c .before .before .before .before .before .before .before .args in
+    let x = conditionAt (a .codes .now) (a .values .now) (a .i) in
+    c .param-holds .ensures
+    ∙ ap₂ (paramHolds (a .train)) (c .before .before .before .get2 .ensures)
+    (same-param (c .before .speed-param .result) (paramOf (x .kind) (x .value)) (c .before .speed-param .ensures ∙ ap₂ (λ (k : ℕ) (v : Float). paramTold (paramOf k v)) (c .before .before .before .before .get .ensures) (c .before .before .get3 .ensures)))
 
 pub condition-holds-spec : {M : Type 1} → statement M
 condition-holds-spec =
