@@ -14,7 +14,7 @@ use Rattle.ieee.proofs.Same.{zero-fits}
 use Rattle.ieee.proofs.Sizes.{real-size, nonneg-size}
 use Rattle.ieee.proofs.Sum.{finite-real}
 use Rattle.speed.specs.Points.{point}
-use Rattle.speed_laws.proofs.Changes.{passes}
+use Rattle.speed.proofs.Reached.{passes}
 use Rattle.link.specs.declared.train_params.TrainParams.{TrainParams}
 use Rattle.link.specs.Train.{lengthOf, topSpeed}
 use Rattle.path.specs.Sound.{trainFinite}

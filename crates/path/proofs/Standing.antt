@@ -1,4 +1,5 @@
--- What a path shows of itself: its counts, its numbers and its closing offsets; written to its columns it passes questions 1 and 2.
+-- What a path shows of itself: its counts, its numbers, its closing offsets, the order of its speed points; written to its columns it passes questions 1
+-- and 2.
 use Prim.Native.Nat.{ℕ, _+_, _≤_, _<_}
 use native.Mathlib.Omega.{arith}
 use mathlib.Core.Path.{_≡_, refl, sym, ap, ap₂, _∙_, subst}
@@ -11,13 +12,13 @@ use lib.Ieee.{Float}
 use lib.Ieee.Bits.{is-true}
 use borrow.Author.Tests.{eq-eqb, eqb-true, le-leb, leb-true}
 use Rattle.ieee.specs.Number.{real, allFinite}
-use Rattle.ieee.proofs.Order.{eq-refl}
+use Rattle.ieee.proofs.Order.{eq-refl, of-true}
 use Rattle.speed.specs.Points.{Point, offsetAt}
 use Rattle.speed.specs.Posted.{SortedFrom, Sorted}
 use Rattle.link.proofs.Known.{and-both}
 use Rattle.path.specs.declared.path_tpc.PathTpc.{PathTpc}
-use Rattle.path.specs.Records.{Columns, withinAll, gradeCount, curveCount, powerCount, Path, pathOf, columnsOf, recordOf}
-use Rattle.path.specs.Sound.{pathFinite, oneOfEach, withinBounds, total, totals, spare, addUp, countsAddUp, closedAtInfinity, endCountsZero, offsetsRise, numbersReal, linksSound, neverFall, sortedFrom, soundPath, sound}
+use Rattle.path.specs.Records.{Columns, withinAll, offsetOf, gradeCount, curveCount, powerCount, linkPointAt, Path, pathOf, columnsOf, recordOf}
+use Rattle.path.specs.Sound.{pathFinite, oneOfEach, withinBounds, total, totals, spare, addUp, countsAddUp, closedAtInfinity, endCountsZero, offsetsRise, numbersReal, linksSound, neverFall, sortedFrom, countOf, firstAtOffset, soundPath, sound}
 use Rattle.path.proofs.Clauses.{within-all, sound-more, sound-within}
 use Rattle.path.proofs.ReadBack.{counted}
 use Rattle.path.proofs.Written.{recordsFinite, powerNumbers, FinitePath, read-finite}
@@ -48,9 +49,46 @@ unfolding sortedFrom
 in-order-from o [] e r h = refl
 in-order-from o (p ∷ ps) e r h = ap₂ _&&_ (ap (λ (x : Float). Ieee.eq x o) e ∙ is-true (Ieee.eq o o) (eq-refl o r)) (never-falls (p .offset) ps h)
 
+-- and the other way round
+from-order : (o : Float) (ps : List Point) → neverFall o ps ≡ true → SortedFrom o ps
+unfolding neverFall
+from-order o [] e = tt
+from-order o (p ∷ ps) e =
+    let t = and-both (Ieee.le o (p .offset)) _ e in
+    (of-true (t .0), from-order (p .offset) ps (t .1))
+
+pub points-order : (o : Float) (ps : List Point) → sortedFrom o ps ≡ true → Sorted ps
+unfolding sortedFrom
+points-order o [] e = tt
+points-order o (p ∷ ps) e = from-order (p .offset) ps (and-both (Ieee.eq (p .offset) o) _ e .1)
+
+pub points-begin : (o : Float) (ps : List Point) → sortedFrom o ps ≡ true → 0 < length ps → T (Ieee.eq (offsetAt ps 0) o)
+unfolding sortedFrom
+points-begin o [] e h = absurd (omega arith)
+points-begin o (p ∷ ps) e h = of-true (and-both (Ieee.eq (p .offset) o) _ e .0)
+
 pub points-some : (o : Float) (ps : List Point) → offsetAt ps 0 ≡ o → T (real o) → 0 < length ps
 points-some o [] e r = absurd (subst (λ (x : Float). T (real x)) (sym e) r)
 points-some o (p ∷ ps) e r = omega arith
+
+-- ---- the clauses of a sound path
+
+pub record Clauses (path : Path) : Type 0 where
+  pub rise : offsetsRise (path .links) ≡ true
+  pub order : sortedFrom (offsetOf (linkPointAt (path .links) 0)) (path .speeds) ≡ true
+  pub first-grades : firstAtOffset (countOf false) 0 (path .links) (path .grades) ≡ true
+  pub first-curves : firstAtOffset (countOf true) 0 (path .links) (path .curves) ≡ true
+
+pub clauses : (path : Path) → soundPath path ≡ true → Clauses path
+unfolding soundPath linksSound
+clauses path e =
+    let closed = and-both (countsAddUp path) _ e .1 in
+    let links = and-both (closedAtInfinity path) _ closed .1 in
+    let known = and-both (endCountsZero (path .links) && (offsetsRise (path .links) && numbersReal (path .links))) _ links in
+    let numbers = and-both (endCountsZero (path .links)) (offsetsRise (path .links) && numbersReal (path .links)) (known .0) .1 in
+    let points = and-both (sortedFrom (offsetOf (linkPointAt (path .links) 0)) (path .speeds)) _ (known .1) in
+    let firsts = and-both (firstAtOffset (countOf false) 0 (path .links) (path .grades)) (firstAtOffset (countOf true) 0 (path .links) (path .curves)) (points .1) in
+    record { rise = and-both (offsetsRise (path .links)) (numbersReal (path .links)) numbers .0; order = points .0; first-grades = firsts .0; first-curves = firsts .1 }
 
 -- ---- the counts
 

@@ -1,4 +1,4 @@
--- Clauses of question 2 without the first link points: offsets that rise, speed points in order, and each link's first record.
+-- Clauses of question 2 without the first link points: offsets that rise, finite speed points, and each link's first record.
 use Prim.Native.Nat.{ℕ, zero, suc, _+_, _<_}
 use native.Mathlib.Nat.{le-of-suc-le-suc}
 use native.Mathlib.Omega.{arith}
@@ -16,14 +16,13 @@ use Rattle.ieee.specs.Number.{allFinite}
 use Rattle.ieee.proofs.Order.{lt-trans, of-true}
 use Rattle.column.specs.Records.{flat}
 use Rattle.speed.specs.Points.{Point, offsetAt}
-use Rattle.speed.specs.Posted.{SortedFrom, Sorted}
 use Rattle.speed_laws.specs.Words.{Every, Finite}
 use Rattle.lookup.specs.declared.path_res_coeff.PathResCoeff.{PathResCoeff}
 use Rattle.lookup.specs.Coeff as coeff
 use Rattle.link.proofs.Known.{and-both}
 use Rattle.path.specs.declared.link_point.LinkPoint.{LinkPoint}
 use Rattle.path.specs.Records.{offsetOf, noLinkPoint, linkPointAt}
-use Rattle.path.specs.Sound.{total, riseFrom, offsetsRise, neverFall, sortedFrom, firstAtOffset}
+use Rattle.path.specs.Sound.{total, riseFrom, offsetsRise, firstAtOffset}
 use Rattle.path.proofs.Written.{pointNumbers}
 
 -- ---- offsets that rise
@@ -80,23 +79,6 @@ points-every (p ∷ ps) e =
     let a = and-both (finite (p .offset)) _ e in
     let b = and-both (finite (p .speed)) _ (a .1) in
     (of-true (a .0), of-true (b .0), points-every ps (b .1))
-
-from-order : (o : Float) (ps : List Point) → neverFall o ps ≡ true → SortedFrom o ps
-unfolding neverFall
-from-order o [] e = tt
-from-order o (p ∷ ps) e =
-    let t = and-both (Ieee.le o (p .offset)) _ e in
-    (of-true (t .0), from-order (p .offset) ps (t .1))
-
-pub points-order : (o : Float) (ps : List Point) → sortedFrom o ps ≡ true → Sorted ps
-unfolding sortedFrom
-points-order o [] e = tt
-points-order o (p ∷ ps) e = from-order (p .offset) ps (and-both (Ieee.eq (p .offset) o) _ e .1)
-
-pub points-begin : (o : Float) (ps : List Point) → sortedFrom o ps ≡ true → 0 < length ps → T (Ieee.eq (offsetAt ps 0) o)
-unfolding sortedFrom
-points-begin o [] e h = absurd (omega arith)
-points-begin o (p ∷ ps) e h = of-true (and-both (Ieee.eq (p .offset) o) _ e .0)
 
 -- ---- each link's first record
 

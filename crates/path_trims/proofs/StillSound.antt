@@ -19,34 +19,15 @@ use Rattle.link.proofs.Known.{and-both}
 use Rattle.path.specs.declared.path_tpc.PathTpc.{PathTpc}
 use Rattle.path.specs.declared.link_point.LinkPoint.{LinkPoint}
 use Rattle.path.specs.Records.{Columns, offsetOf, gradeCount, curveCount, linkPointAt, Path, pathOf, recordOf}
-use Rattle.path.specs.Sound.{pathFinite, oneOfEach, withinBounds, totals, countsAddUp, closedAtInfinity, linksSound, endCountsZero, offsetsRise, numbersReal, sortedFrom, countOf, firstAtOffset, soundPath, sound}
+use Rattle.path.specs.Sound.{pathFinite, oneOfEach, withinBounds, totals, countsAddUp, linksSound, sortedFrom, countOf, soundPath, sound}
 use Rattle.path.proofs.Clauses.{sound-more, sound-within}
 use Rattle.path.proofs.ReadBack.{counted}
 use Rattle.path.proofs.Written.{FinitePath, read-finite, written-finite, written-sound}
 use Rattle.path.proofs.Lasts.{total-split}
-use Rattle.path.proofs.Standing.{Stays, Before, before, in-order-from, add-up, one-each}
+use Rattle.path.proofs.Standing.{Stays, Before, before, in-order-from, points-order, points-begin, clauses, add-up, one-each}
 use Rattle.path_trim.specs.Clear.{withoutLinks, clearedPath}
 use Rattle.path_trims.proofs.WithoutLinks.{goes, stay-grades, stay-curves, own-without, own-clear}
-use Rattle.path_trims.proofs.Rising.{rise-drop, after-first, point-drop, offset-finite, offsets-drop, points-finite, points-every, points-order, points-begin, first-drop}
-
--- ---- the clauses of a sound path
-
-pub record Clauses (path : Path) : Type 0 where
-  pub rise : offsetsRise (path .links) ≡ true
-  pub order : sortedFrom (offsetOf (linkPointAt (path .links) 0)) (path .speeds) ≡ true
-  pub first-grades : firstAtOffset (countOf false) 0 (path .links) (path .grades) ≡ true
-  pub first-curves : firstAtOffset (countOf true) 0 (path .links) (path .curves) ≡ true
-
-pub clauses : (path : Path) → soundPath path ≡ true → Clauses path
-unfolding soundPath linksSound
-clauses path e =
-    let closed = and-both (countsAddUp path) _ e .1 in
-    let links = and-both (closedAtInfinity path) _ closed .1 in
-    let known = and-both (endCountsZero (path .links) && (offsetsRise (path .links) && numbersReal (path .links))) _ links in
-    let numbers = and-both (endCountsZero (path .links)) (offsetsRise (path .links) && numbersReal (path .links)) (known .0) .1 in
-    let points = and-both (sortedFrom (offsetOf (linkPointAt (path .links) 0)) (path .speeds)) _ (known .1) in
-    let firsts = and-both (firstAtOffset (countOf false) 0 (path .links) (path .grades)) (firstAtOffset (countOf true) 0 (path .links) (path .curves)) (points .1) in
-    record { rise = and-both (offsetsRise (path .links)) (numbersReal (path .links)) numbers .0; order = points .0; first-grades = firsts .0; first-curves = firsts .1 }
+use Rattle.path_trims.proofs.Rising.{rise-drop, after-first, point-drop, offset-finite, offsets-drop, points-finite, points-every, first-drop}
 
 some-speed : (path : Path) → oneOfEach (recordOf path) ≡ true → 0 < length (path .speeds)
 unfolding oneOfEach recordOf

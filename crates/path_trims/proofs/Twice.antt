@@ -15,10 +15,11 @@ use Rattle.path.specs.declared.link_point.LinkPoint.{LinkPoint}
 use Rattle.path.specs.Records.{offsetOf, gradeCount, curveCount, powerCount, linkPointAt, Path, recordOf}
 use Rattle.path.specs.Sound.{oneOfEach, total, totals, soundPath}
 use Rattle.path.proofs.Lasts.{total-append}
+use Rattle.path.proofs.Standing.{clauses}
 use Rattle.path_trim.specs.Clear.{withoutLinks, clearedPath}
 use Rattle.path_trims.specs.Trims.{both}
 use Rattle.path_trims.proofs.Rising.{rise-drop, after-first, point-drop}
-use Rattle.path_trims.proofs.StillSound.{clauses, in-order, not-after}
+use Rattle.path_trims.proofs.StillSound.{in-order, not-after}
 
 -- ---- the counts of the links that go
 

@@ -15,8 +15,9 @@ use Rattle.ieee.proofs.Speed.{minSpeed-real}
 use Rattle.speed.specs.Points.{Point, point, offsetAt}
 use Rattle.speed.specs.Insert.{appendChange, appendLimit}
 use Rattle.speed.specs.Posted.{passed, posted, Sorted}
+use Rattle.speed.proofs.Reached.{passes, not-passed}
 use Rattle.speed_laws.specs.Words.{covers}
-use Rattle.speed_laws.proofs.Changes.{Change, none, next, then, enter, lower, out, passes, not-passed, covers-from, covers-to, Laid, laid-next, low-already}
+use Rattle.speed_laws.proofs.Changes.{Change, none, next, then, enter, lower, out, covers-from, covers-to, Laid, laid-next, low-already}
 use Rattle.speed_laws.proofs.Front.{less-one, append-front}
 
 module _ (s e v : Float) (order : T (Ieee.le s e)) where

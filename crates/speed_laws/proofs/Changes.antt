@@ -3,10 +3,9 @@ use mathlib.Core.Path.{_≡_, refl, sym, ap, _∙_, subst}
 use mathlib.Core.Logic.{_⊎_, inl, inr}
 use mathlib.Core.Bool.{Bool, true, false, not, cond}
 use mathlib.Core.List.{List, [], _∷_}
-use lib.Dec.{T, not-T}
+use lib.Dec.{T}
 use lib.Ieee as Ieee
 use lib.Ieee.{Float}
-use lib.Ieee.Bits.{is-true, is-false}
 use lib.Ieee.Fits.{and-l, and-r}
 use Rattle.ieee.specs.Number.{real}
 use Rattle.ieee.specs.Speed.{minSpeed}
@@ -14,6 +13,7 @@ use Rattle.ieee.proofs.Order.{le-trans, eq-refl, eq-trans, eq-real-l, ne-is, of
 use Rattle.ieee.proofs.Speed.{minSpeed-cong, minSpeed-again, minSpeed-real}
 use Rattle.speed.specs.Points.{Point, point}
 use Rattle.speed.specs.Posted.{passed, posted, SortedFrom}
+use Rattle.speed.proofs.Reached.{passes}
 use Rattle.speed_laws.specs.Words.{covers, Every}
 
 -- a point with its speed lowered to the limit's
@@ -61,14 +61,6 @@ change-every O W os oe low (lower p t l) n = (n .0, low (p .speed) (n .1), n .2)
 change-every O W os oe low (out q p t l k e) n = (n .0, n .1, n .2 .2)
 
 -- ---- the posted speed
-
--- from a point at or before x on its speed is posted
-pub passes : (x : Float) (p : Point) (u : Float) → T (Ieee.le (p .offset) x) → passed x p u ≡ p .speed
-passes x p u h = rw (is-true (Ieee.le (p .offset) x) h)
-
--- and before a point it is not
-pub not-passed : (x : Float) (p : Point) (u : Float) → (T (Ieee.le (p .offset) x) → ⊥) → passed x p u ≡ u
-not-passed x p u h = rw (is-false (Ieee.le (p .offset) x) (not-T (Ieee.le (p .offset) x) h))
 
 module _ (s v x : Float) where
   -- t, posted at x, comes of w: it is w, or from s on it equals w or the smaller of w and v

@@ -15,8 +15,8 @@ use Rattle.speed.specs.Points.{Point, point, offsetAt}
 use Rattle.speed.specs.Insert.{firstFrom}
 use Rattle.speed.specs.Clear.{isAt, moveTo, clearFrom, clearPoints}
 use Rattle.speed.specs.Posted.{passed, posted, SortedFrom, Sorted}
+use Rattle.speed.proofs.Reached.{passes}
 use Rattle.speed_laws.specs.Words.{Every}
-use Rattle.speed_laws.proofs.Changes.{passes}
 use Rattle.speed_laws.proofs.Front.{less-one}
 use Rattle.speed_laws.proofs.Lay.{from-le}
 

@@ -19,8 +19,9 @@ use Rattle.speed.specs.Points.{Point, offsetAt}
 use Rattle.speed.specs.Insert.{insertSpeed}
 use Rattle.speed.specs.Posted.{passed, posted, SortedFrom, Sorted}
 use Rattle.speed.proofs.Steps.{insert-append, insert-lay, first-below}
+use Rattle.speed.proofs.Reached.{passes, sorted-of}
 use Rattle.speed_laws.specs.Words.{covers, Every, Finite}
-use Rattle.speed_laws.proofs.Changes.{passes, Near, change-order, change-every, change-near, Laid}
+use Rattle.speed_laws.proofs.Changes.{Near, change-order, change-every, change-near, Laid}
 use Rattle.speed_laws.proofs.Lay.{lay-laid}
 use Rattle.speed_laws.proofs.Append.{append-laid}
 
@@ -29,14 +30,10 @@ pub first-some : (ps : List Point) (s : Float) → T (Ieee.le (offsetAt ps 0) s)
 first-some [] s h = absurd (le-real-l nan s h)
 first-some (p ∷ ps) s h = omega arith
 
--- sorted points with a first are sorted from its offset on, and the other way round
+-- sorted points with a first are sorted from its offset on
 from-first : (ps : List Point) (s : Float) → Sorted ps → T (Ieee.le (offsetAt ps 0) s) → SortedFrom (offsetAt ps 0) ps
 from-first [] s h a = tt
 from-first (p ∷ ps) s h a = (le-refl (p .offset) (le-real-l (p .offset) s a), h)
-
-sorted-of : (o : Float) (ps : List Point) → SortedFrom o ps → Sorted ps
-sorted-of o [] h = tt
-sorted-of o (p ∷ ps) h = h .1
 
 every-posted : (O W : Float → Type 0) (x u : Float) (ps : List Point) → Every O W ps → W u → W (posted x ps u)
 every-posted O W x u [] n h = h

@@ -1,5 +1,5 @@
 -- The merge of the points after a first one: a run of changes, after which the smaller speed is posted.
-use mathlib.Core.Path.{_≡_, refl, sym, ap, _∙_, subst}
+use mathlib.Core.Path.{_≡_, refl, sym, _∙_, subst}
 use mathlib.Core.Bool.{Bool, true, false, cond}
 use mathlib.Core.List.{List, [], _∷_}
 use Prim.Native.Nat.{ℕ, zero, suc, _≤_}
@@ -8,43 +8,16 @@ use lib.Dec.{T}
 use lib.ListN.{length, drop}
 use lib.Ieee as Ieee
 use lib.Ieee.{Float, nan}
-use lib.Ieee.Bits.{is-true}
 use Rattle.ieee.specs.Number.{real}
 use Rattle.ieee.specs.Speed.{minSpeed}
-use Rattle.ieee.proofs.Order.{le-trans, eq-refl, of-true}
+use Rattle.ieee.proofs.Order.{eq-refl, of-true}
 use Rattle.ieee.proofs.Speed.{minSpeed-real}
 use Rattle.speed.specs.Points.{Point}
 use Rattle.speed.specs.Insert.{merge}
 use Rattle.speed.specs.Posted.{passed, posted, SortedFrom}
-use Rattle.speed_laws.proofs.Changes.{lowered, Change, none, next, then, lower, out, past, passes, not-passed, change-met}
+use Rattle.speed.proofs.Reached.{reaches, only, alike}
+use Rattle.speed_laws.proofs.Changes.{lowered, Change, none, next, then, lower, out, past, change-met}
 use Rattle.speed_laws.proofs.Front.{merge-front}
-
--- ---- posted from points that are sorted
-
--- the first of the points is at or before x
-abbrev pub reaches : Float → List Point → Bool
-reaches x [] = false
-reaches x (p ∷ ps) = Ieee.le (p .offset) x
-
-module _ (x : Float) where
-  -- points after x post nothing
-  pub ahead : (o : Float) (ps : List Point) (u : Float) → (T (Ieee.le o x) → ⊥) → SortedFrom o ps → posted x ps u ≡ u
-  ahead o [] u f h = refl
-  ahead o (p ∷ ps) u f h =
-      let g : T (Ieee.le (p .offset) x) → ⊥ = λ k. f (le-trans o (p .offset) x (h .0) k) in
-      rw (not-passed x p u g) (ahead (p .offset) ps u g (h .1))
-
-  -- of points that do not reach x the point before them is posted
-  pub only : (q : Point) (ps : List Point) (u : Float) → SortedFrom (q .offset) ps → T (Ieee.le (q .offset) x) → reaches x ps ≡ false → posted x (q ∷ ps) u ≡ q .speed
-  only q [] u h l f = passes x q u l
-  only q (p ∷ ps) u h l f = ap (posted x ps) (rw f (passes x q u l)) ∙ ahead (p .offset) ps (q .speed) (λ k. subst T f k) (h .1)
-
-  -- of points that reach x nothing before them is
-  pub alike : (ps : List Point) (t u : Float) → T (reaches x ps) → posted x ps t ≡ posted x ps u
-  alike [] t u h = absurd h
-  alike (p ∷ ps) t u h = rw (is-true (Ieee.le (p .offset) x) h)
-
--- ---- the merge
 
 merge-one : (v : Float) (k : ℕ) (q r : Point) (rs : List Point) → merge v (suc k) 1 (q ∷ r ∷ rs) ≡ cond (Ieee.eq (q .speed) (minSpeed (r .speed) v)) (merge v k 1 (q ∷ rs)) (q ∷ merge v k 1 (lowered v r ∷ rs))
 unfolding merge

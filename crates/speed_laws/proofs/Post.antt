@@ -8,7 +8,7 @@ use lib.Ieee.{Float}
 use Rattle.ieee.proofs.Order.{le-trans, of-true}
 use Rattle.speed.specs.Points.{Point, point}
 use Rattle.speed.specs.Posted.{passed, posted}
-use Rattle.speed_laws.proofs.Changes.{passes}
+use Rattle.speed.proofs.Reached.{passes}
 
 -- What the first part posts counts where the second has no point yet.
 pub posted-append : (x u : Float) (ps qs : List Point) → posted x (ps ++ qs) u ≡ posted x qs (posted x ps u)
