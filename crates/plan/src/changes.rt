@@ -1,4 +1,11 @@
 // The calls that may change the path, as lines of a route.
+use crate::columns::Curves;
+use crate::columns::Districts;
+use crate::columns::Grades;
+use crate::columns::Numbers;
+use crate::columns::Offsets;
+use crate::columns::Powers;
+use crate::columns::Speeds;
 use crate::columns::cut_numbers;
 use link::train_params::TrainParams;
 use path::path_tpc::Answer;
@@ -37,13 +44,13 @@ fn extend(
     at: usize,
     train: TrainParams,
     p: PathTpc,
-    offsets: &mut [f64],
-    numbers: &mut [u32],
-    grades: &mut [f64],
-    curves: &mut [f64],
-    speeds: &mut [f64],
-    powers: &mut [f64],
-    districts: &mut [u32],
+    offsets: &mut Offsets,
+    numbers: &mut Numbers,
+    grades: &mut Grades,
+    curves: &mut Curves,
+    speeds: &mut Speeds,
+    powers: &mut Powers,
+    districts: &mut Districts,
     links: &[u32],
     lengths: &[f64],
     sets: &[u32],
@@ -85,13 +92,13 @@ fn reindex(
     text: &[u8],
     at: usize,
     p: PathTpc,
-    offsets: &mut [f64],
-    numbers: &mut [u32],
-    grades: &mut [f64],
-    curves: &mut [f64],
-    speeds: &mut [f64],
-    powers: &mut [f64],
-    districts: &mut [u32],
+    offsets: &mut Offsets,
+    numbers: &mut Numbers,
+    grades: &mut Grades,
+    curves: &mut Curves,
+    speeds: &mut Speeds,
+    powers: &mut Powers,
+    districts: &mut Districts,
 ) -> Step {
     let mut list = [0u32; 1025];
     let n = fill_list(text, at, &mut list);
@@ -111,13 +118,13 @@ fn reindex(
 fn clear(
     x: Length,
     p: PathTpc,
-    offsets: &mut [f64],
-    numbers: &mut [u32],
-    grades: &mut [f64],
-    curves: &mut [f64],
-    speeds: &mut [f64],
-    powers: &mut [f64],
-    districts: &mut [u32],
+    offsets: &mut Offsets,
+    numbers: &mut Numbers,
+    grades: &mut Grades,
+    curves: &mut Curves,
+    speeds: &mut Speeds,
+    powers: &mut Powers,
+    districts: &mut Districts,
 ) -> Step {
     let r = path_trim::clear::clear(
         p,
@@ -149,13 +156,13 @@ fn plain_change(
     kind: u32,
     train: TrainParams,
     p: PathTpc,
-    offsets: &mut [f64],
-    numbers: &mut [u32],
-    grades: &mut [f64],
-    curves: &mut [f64],
-    speeds: &mut [f64],
-    powers: &mut [f64],
-    districts: &mut [u32],
+    offsets: &mut Offsets,
+    numbers: &mut Numbers,
+    grades: &mut Grades,
+    curves: &mut Curves,
+    speeds: &mut Speeds,
+    powers: &mut Powers,
+    districts: &mut Districts,
 ) -> Step {
     if kind == NEW {
         return step_of(path_trim::new::new(
@@ -215,13 +222,13 @@ pub fn change(
     kind: u32,
     train: TrainParams,
     p: PathTpc,
-    offsets: &mut [f64],
-    numbers: &mut [u32],
-    grades: &mut [f64],
-    curves: &mut [f64],
-    speeds: &mut [f64],
-    powers: &mut [f64],
-    districts: &mut [u32],
+    offsets: &mut Offsets,
+    numbers: &mut Numbers,
+    grades: &mut Grades,
+    curves: &mut Curves,
+    speeds: &mut Speeds,
+    powers: &mut Powers,
+    districts: &mut Districts,
     links: &[u32],
     lengths: &[f64],
     sets: &[u32],

@@ -4,6 +4,30 @@ use route::fill::fill_table;
 use route::judge::Seen;
 ghost use Prim.Native.Nat.{_≤_};
 
+// The columns of a path at the bounds of R12.
+pub type Offsets = [f64; 1025];
+
+pub type Numbers = [u32; 4100];
+
+pub type Grades = [f64; 49152];
+
+pub type Curves = [f64; 49152];
+
+pub type Speeds = [f64; 8192];
+
+pub type Powers = [f64; 3072];
+
+pub type Districts = [u32; 1024];
+
+// The columns of what was joined.
+pub type Boards = [f64; 12288];
+
+pub type Tags = [f64; 8192];
+
+pub type Borders = [f64; 4096];
+
+pub type Heights = [f64; 65536];
+
 // The first n entries of a column, all where it has fewer.
 pub fn cut_numbers(col: &[u32], n: usize) -> &[u32] {
     if n <= col.len() {
@@ -89,16 +113,16 @@ fn with_links(
     text: &[u8],
     seen: Seen,
     svg: bool,
-    links: &mut [u32],
-    lengths: &mut [f64],
-    sets: &mut [u32],
-    elevs: &mut [f64],
-    headings: &mut [f64],
-    limits: &mut [f64],
-    codes: &mut [u32],
-    values: &mut [f64],
-    pool: &mut [f64],
-    regions: &mut [u32],
+    links: &mut [u32; 11275],
+    lengths: &mut [f64; 1025],
+    sets: &mut [u32; 49200],
+    elevs: &mut [f64; 32768],
+    headings: &mut [f64; 32768],
+    limits: &mut [f64; 24576],
+    codes: &mut [u32; 16384],
+    values: &mut [f64; 8192],
+    pool: &mut [f64; 3072],
+    regions: &mut [u32; 1024],
 ) {
     fill_table(
         text,

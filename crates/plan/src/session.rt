@@ -1,6 +1,17 @@
 // One call after another.
 use crate::changes::Step;
 use crate::changes::change;
+use crate::columns::Boards;
+use crate::columns::Borders;
+use crate::columns::Curves;
+use crate::columns::Districts;
+use crate::columns::Grades;
+use crate::columns::Heights;
+use crate::columns::Numbers;
+use crate::columns::Offsets;
+use crate::columns::Powers;
+use crate::columns::Speeds;
+use crate::columns::Tags;
 use crate::original::Lost;
 use crate::original::lost_behind;
 use crate::original::side_by_side;
@@ -114,8 +125,8 @@ fn answered(
     before: PathTpc,
     step: Step,
     lost: Lost,
-    offsets: &[f64],
-    speeds: &[f64],
+    offsets: &Offsets,
+    speeds: &Speeds,
 ) {
     let answer = step.answer;
     if svg {
@@ -161,11 +172,11 @@ fn joined_links(
     limits: usize,
     before: PathTpc,
     p: PathTpc,
-    offsets: &[f64],
-    numbers: &[u32],
-    grades: &[f64],
-    borders: &mut [f64],
-    heights: &mut [f64],
+    offsets: &Offsets,
+    numbers: &Numbers,
+    grades: &Grades,
+    borders: &mut Borders,
+    heights: &mut Heights,
 ) -> History {
     let from = last_of(before.link_count);
     let to = last_of(p.link_count);
@@ -190,17 +201,17 @@ fn joined(
     s: Session,
     step: Step,
     train: TrainParams,
-    offsets: &[f64],
-    numbers: &[u32],
-    grades: &[f64],
+    offsets: &Offsets,
+    numbers: &Numbers,
+    grades: &Grades,
     sets: &[u32],
     limits: &[f64],
     codes: &[u32],
     values: &[f64],
-    boards: &mut [f64],
-    tags: &mut [f64],
-    borders: &mut [f64],
-    heights: &mut [f64],
+    boards: &mut Boards,
+    tags: &mut Tags,
+    borders: &mut Borders,
+    heights: &mut Heights,
 ) -> History {
     let answer = step.answer;
     let h = s.history;
@@ -286,13 +297,13 @@ fn made(
     svg: bool,
     train: TrainParams,
     s: Session,
-    offsets: &mut [f64],
-    numbers: &mut [u32],
-    grades: &mut [f64],
-    curves: &mut [f64],
-    speeds: &mut [f64],
-    powers: &mut [f64],
-    districts: &mut [u32],
+    offsets: &mut Offsets,
+    numbers: &mut Numbers,
+    grades: &mut Grades,
+    curves: &mut Curves,
+    speeds: &mut Speeds,
+    powers: &mut Powers,
+    districts: &mut Districts,
     links: &[u32],
     lengths: &[f64],
     sets: &[u32],
@@ -342,13 +353,13 @@ fn changed(
     svg: bool,
     train: TrainParams,
     s: Session,
-    offsets: &mut [f64],
-    numbers: &mut [u32],
-    grades: &mut [f64],
-    curves: &mut [f64],
-    speeds: &mut [f64],
-    powers: &mut [f64],
-    districts: &mut [u32],
+    offsets: &mut Offsets,
+    numbers: &mut Numbers,
+    grades: &mut Grades,
+    curves: &mut Curves,
+    speeds: &mut Speeds,
+    powers: &mut Powers,
+    districts: &mut Districts,
     links: &[u32],
     lengths: &[f64],
     sets: &[u32],
@@ -359,10 +370,10 @@ fn changed(
     values: &[f64],
     pool: &[f64],
     regions: &[u32],
-    boards: &mut [f64],
-    tags: &mut [f64],
-    borders: &mut [f64],
-    heights: &mut [f64],
+    boards: &mut Boards,
+    tags: &mut Tags,
+    borders: &mut Borders,
+    heights: &mut Heights,
 ) -> Session {
     let step = made(
         text,
@@ -416,15 +427,15 @@ fn looked(
     kind: u32,
     train: TrainParams,
     s: Session,
-    offsets: &[f64],
-    numbers: &[u32],
-    grades: &[f64],
-    curves: &[f64],
-    speeds: &[f64],
-    powers: &[f64],
-    districts: &[u32],
-    boards: &[f64],
-    tags: &[f64],
+    offsets: &Offsets,
+    numbers: &Numbers,
+    grades: &Grades,
+    curves: &Curves,
+    speeds: &Speeds,
+    powers: &Powers,
+    districts: &Districts,
+    boards: &Boards,
+    tags: &Tags,
 ) -> Straps {
     let p = s.path;
     let h = s.history;
@@ -473,13 +484,13 @@ fn turn(
     svg: bool,
     train: TrainParams,
     before: Session,
-    offsets: &mut [f64],
-    numbers: &mut [u32],
-    grades: &mut [f64],
-    curves: &mut [f64],
-    speeds: &mut [f64],
-    powers: &mut [f64],
-    districts: &mut [u32],
+    offsets: &mut Offsets,
+    numbers: &mut Numbers,
+    grades: &mut Grades,
+    curves: &mut Curves,
+    speeds: &mut Speeds,
+    powers: &mut Powers,
+    districts: &mut Districts,
     links: &[u32],
     lengths: &[f64],
     sets: &[u32],
@@ -490,10 +501,10 @@ fn turn(
     values: &[f64],
     pool: &[f64],
     regions: &[u32],
-    boards: &mut [f64],
-    tags: &mut [f64],
-    borders: &mut [f64],
-    heights: &mut [f64],
+    boards: &mut Boards,
+    tags: &mut Tags,
+    borders: &mut Borders,
+    heights: &mut Heights,
 ) -> Session {
     let kind = kind_of(text, at);
     let mut s = before;
@@ -575,12 +586,12 @@ fn result(
     svg: bool,
     train: TrainParams,
     s: Session,
-    offsets: &[f64],
-    speeds: &[f64],
-    boards: &[f64],
-    tags: &[f64],
-    borders: &[f64],
-    heights: &[f64],
+    offsets: &Offsets,
+    speeds: &Speeds,
+    boards: &Boards,
+    tags: &Tags,
+    borders: &Borders,
+    heights: &Heights,
 ) {
     let p = s.path;
     let h = s.history;
@@ -622,13 +633,13 @@ pub fn run(
     text: &[u8],
     seen: Seen,
     svg: bool,
-    offsets: &mut [f64],
-    numbers: &mut [u32],
-    grades: &mut [f64],
-    curves: &mut [f64],
-    speeds: &mut [f64],
-    powers: &mut [f64],
-    districts: &mut [u32],
+    offsets: &mut Offsets,
+    numbers: &mut Numbers,
+    grades: &mut Grades,
+    curves: &mut Curves,
+    speeds: &mut Speeds,
+    powers: &mut Powers,
+    districts: &mut Districts,
     links: &[u32],
     lengths: &[f64],
     sets: &[u32],
@@ -639,10 +650,10 @@ pub fn run(
     values: &[f64],
     pool: &[f64],
     regions: &[u32],
-    boards: &mut [f64],
-    tags: &mut [f64],
-    borders: &mut [f64],
-    heights: &mut [f64],
+    boards: &mut Boards,
+    tags: &mut Tags,
+    borders: &mut Borders,
+    heights: &mut Heights,
 ) {
     let train = train_of(text, seen.train_at);
     let mut s = start();

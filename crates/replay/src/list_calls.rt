@@ -66,7 +66,7 @@ fn with_strap(mut s: Session, p: Strap) -> Session {
 
 // How many records the current list has.
 fn records(w: &[u64], s: Session) -> usize {
-    held(w, s.list, 1024) / 3
+    held(w, s.list, 4096) / 3
 }
 
 fn search(w: &[u64], at: usize, s: Session) {

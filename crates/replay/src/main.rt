@@ -1,10 +1,18 @@
 // Replays stored calls: standard input has them, and what the port answers is printed beside the name of each.
 mod words; // the numbers of a text
 mod table; // columns, trains, positions and directions read from the numbers
+mod columns; // the columns of a path
 mod print; // an answer, and a path's lists
 mod path_calls; // the calls on a path
 mod list_calls; // searches, Point and Strap
 
+use columns::Curves;
+use columns::Districts;
+use columns::Grades;
+use columns::Numbers;
+use columns::Offsets;
+use columns::Powers;
+use columns::Speeds;
 use path::path_tpc::PathTpc;
 ghost use Prim.Native.Nat.{_<_};
 
@@ -40,13 +48,13 @@ fn after(w: &[u64], pos: usize, n: usize) -> usize
 fn replay(
     w: &[u64],
     n: usize,
-    offsets: &mut [f64],
-    numbers: &mut [u32],
-    grades: &mut [f64],
-    curves: &mut [f64],
-    speeds: &mut [f64],
-    powers: &mut [f64],
-    districts: &mut [u32],
+    offsets: &mut Offsets,
+    numbers: &mut Numbers,
+    grades: &mut Grades,
+    curves: &mut Curves,
+    speeds: &mut Speeds,
+    powers: &mut Powers,
+    districts: &mut Districts,
 ) {
     let mut s = list_calls::start();
     let mut p = no_path();
@@ -74,7 +82,7 @@ fn replay(
     }
 }
 
-// The calls in w, on columns with room for 48 link points, 160 grades, curves and speed points, and 64 power limits.
+// The calls in w.
 fn with_columns(w: &[u64], n: usize) {
     let mut offsets = [0.0f64; 48];
     let mut numbers = [0u32; 192];

@@ -1,4 +1,11 @@
-// The calls on a path. The columns of a table are laid out anew for each call that reads it.
+// The calls on a path. The table is laid out anew for each call that reads it.
+use crate::columns::Curves;
+use crate::columns::Districts;
+use crate::columns::Grades;
+use crate::columns::Numbers;
+use crate::columns::Offsets;
+use crate::columns::Powers;
+use crate::columns::Speeds;
 use crate::list_calls::Session;
 use crate::print::done;
 use crate::print::end;
@@ -6,16 +13,18 @@ use crate::print::flag;
 use crate::print::lists;
 use crate::print::real;
 use crate::print::whole;
-use crate::table::cut_floats;
+use crate::table::Laid;
+use crate::table::LaidFloats;
 use crate::table::cut_numbers;
 use crate::table::float_at;
 use crate::table::floats_at;
+use crate::table::floats_of;
 use crate::table::numbers_at;
+use crate::table::numbers_of;
 use crate::table::state_at;
 use crate::table::train_at;
 use crate::words::entry;
-use crate::words::inside;
-use crate::words::next_column;
+use crate::words::held;
 use path::path_tpc::PathAnswer;
 use path::path_tpc::PathTpc;
 use path_links::link_records::link_range;
@@ -29,13 +38,13 @@ fn on_table(
     s: Session,
     p: PathTpc,
     list: &[u32],
-    offsets: &mut [f64],
-    numbers: &mut [u32],
-    grades: &mut [f64],
-    curves: &mut [f64],
-    speeds: &mut [f64],
-    powers: &mut [f64],
-    districts: &mut [u32],
+    offsets: &mut Offsets,
+    numbers: &mut Numbers,
+    grades: &mut Grades,
+    curves: &mut Curves,
+    speeds: &mut Speeds,
+    powers: &mut Powers,
+    districts: &mut Districts,
     links: &[u32],
     lengths: &[f64],
     sets: &[u32],
@@ -94,51 +103,34 @@ fn on_table(
     )
 }
 
-// The same with each column of the table cut to its length.
+// The same with a table that was laid out as numbers and as floats.
 fn cut_table(
     w: &[u64],
     code: u64,
     s: Session,
     p: PathTpc,
     list: &[u32],
-    offsets: &mut [f64],
-    numbers: &mut [u32],
-    grades: &mut [f64],
-    curves: &mut [f64],
-    speeds: &mut [f64],
-    powers: &mut [f64],
-    districts: &mut [u32],
-    links: &[u32; 1024],
-    lengths: &[f64; 1024],
-    sets: &[u32; 1024],
-    elevs: &[f64; 1024],
-    headings: &[f64; 1024],
-    limits: &[f64; 1024],
-    codes: &[u32; 1024],
-    values: &[f64; 1024],
-    pool: &[f64; 1024],
-    regions: &[u32; 1024],
+    offsets: &mut Offsets,
+    numbers: &mut Numbers,
+    grades: &mut Grades,
+    curves: &mut Curves,
+    speeds: &mut Speeds,
+    powers: &mut Powers,
+    districts: &mut Districts,
+    words: &Laid,
+    reals: &LaidFloats,
 ) -> PathAnswer {
-    let c0 = inside(w, s.table);
-    let links = cut_numbers(w, c0, links);
-    let c1 = next_column(w, c0);
-    let lengths = cut_floats(w, c1, lengths);
-    let c2 = next_column(w, c1);
-    let sets = cut_numbers(w, c2, sets);
-    let c3 = next_column(w, c2);
-    let elevs = cut_floats(w, c3, elevs);
-    let c4 = next_column(w, c3);
-    let headings = cut_floats(w, c4, headings);
-    let c5 = next_column(w, c4);
-    let limits = cut_floats(w, c5, limits);
-    let c6 = next_column(w, c5);
-    let codes = cut_numbers(w, c6, codes);
-    let c7 = next_column(w, c6);
-    let values = cut_floats(w, c7, values);
-    let c8 = next_column(w, c7);
-    let pool = cut_floats(w, c8, pool);
-    let c9 = next_column(w, c8);
-    let regions = cut_numbers(w, c9, regions);
+    let table = s.table;
+    let links = numbers_of(w, table, 0, words);
+    let lengths = floats_of(w, table, 1, reals);
+    let sets = numbers_of(w, table, 2, words);
+    let elevs = floats_of(w, table, 3, reals);
+    let headings = floats_of(w, table, 4, reals);
+    let limits = floats_of(w, table, 5, reals);
+    let codes = numbers_of(w, table, 6, words);
+    let values = floats_of(w, table, 7, reals);
+    let pool = floats_of(w, table, 8, reals);
+    let regions = numbers_of(w, table, 9, words);
     on_table(
         w,
         code,
@@ -172,36 +164,18 @@ fn with_table(
     at: usize,
     s: Session,
     p: PathTpc,
-    offsets: &mut [f64],
-    numbers: &mut [u32],
-    grades: &mut [f64],
-    curves: &mut [f64],
-    speeds: &mut [f64],
-    powers: &mut [f64],
-    districts: &mut [u32],
+    offsets: &mut Offsets,
+    numbers: &mut Numbers,
+    grades: &mut Grades,
+    curves: &mut Curves,
+    speeds: &mut Speeds,
+    powers: &mut Powers,
+    districts: &mut Districts,
 ) -> PathAnswer {
     let laid = numbers_at(w, at);
-    let list = cut_numbers(w, at, &laid);
-    let c0 = inside(w, s.table);
-    let links = numbers_at(w, c0);
-    let c1 = next_column(w, c0);
-    let lengths = floats_at(w, c1);
-    let c2 = next_column(w, c1);
-    let sets = numbers_at(w, c2);
-    let c3 = next_column(w, c2);
-    let elevs = floats_at(w, c3);
-    let c4 = next_column(w, c3);
-    let headings = floats_at(w, c4);
-    let c5 = next_column(w, c4);
-    let limits = floats_at(w, c5);
-    let c6 = next_column(w, c5);
-    let codes = numbers_at(w, c6);
-    let c7 = next_column(w, c6);
-    let values = floats_at(w, c7);
-    let c8 = next_column(w, c7);
-    let pool = floats_at(w, c8);
-    let c9 = next_column(w, c8);
-    let regions = numbers_at(w, c9);
+    let list = cut_numbers(&laid, held(w, at, 4096));
+    let words = numbers_at(w, s.table);
+    let reals = floats_at(w, s.table);
     cut_table(
         w,
         code,
@@ -215,16 +189,8 @@ fn with_table(
         &mut *speeds,
         &mut *powers,
         &mut *districts,
-        &links,
-        &lengths,
-        &sets,
-        &elevs,
-        &headings,
-        &limits,
-        &codes,
-        &values,
-        &pool,
-        &regions,
+        &words,
+        &reals,
     )
 }
 
@@ -233,16 +199,16 @@ fn renumbered(
     w: &[u64],
     at: usize,
     p: PathTpc,
-    offsets: &mut [f64],
-    numbers: &mut [u32],
-    grades: &mut [f64],
-    curves: &mut [f64],
-    speeds: &mut [f64],
-    powers: &mut [f64],
-    districts: &mut [u32],
+    offsets: &mut Offsets,
+    numbers: &mut Numbers,
+    grades: &mut Grades,
+    curves: &mut Curves,
+    speeds: &mut Speeds,
+    powers: &mut Powers,
+    districts: &mut Districts,
 ) -> PathAnswer {
     let laid = numbers_at(w, at);
-    let list = cut_numbers(w, at, &laid);
+    let list = cut_numbers(&laid, held(w, at, 4096));
     path_links::reindex::reindex(
         p,
         list,
@@ -261,13 +227,13 @@ fn shown(
     name: &[u8],
     r: PathAnswer,
     before: PathTpc,
-    offsets: &[f64],
-    numbers: &[u32],
-    grades: &[f64],
-    curves: &[f64],
-    speeds: &[f64],
-    powers: &[f64],
-    districts: &[u32],
+    offsets: &Offsets,
+    numbers: &Numbers,
+    grades: &Grades,
+    curves: &Curves,
+    speeds: &Speeds,
+    powers: &Powers,
+    districts: &Districts,
 ) -> PathTpc {
     let answer = r.answer;
     if done(name, answer) {
@@ -304,13 +270,13 @@ fn new(
     w: &[u64],
     s: Session,
     p: PathTpc,
-    offsets: &mut [f64],
-    numbers: &mut [u32],
-    grades: &mut [f64],
-    curves: &mut [f64],
-    speeds: &mut [f64],
-    powers: &mut [f64],
-    districts: &mut [u32],
+    offsets: &mut Offsets,
+    numbers: &mut Numbers,
+    grades: &mut Grades,
+    curves: &mut Curves,
+    speeds: &mut Speeds,
+    powers: &mut Powers,
+    districts: &mut Districts,
 ) -> PathTpc {
     let r = path_trim::new::new(
         train_at(w, s.train),
@@ -342,13 +308,13 @@ fn extend(
     at: usize,
     s: Session,
     p: PathTpc,
-    offsets: &mut [f64],
-    numbers: &mut [u32],
-    grades: &mut [f64],
-    curves: &mut [f64],
-    speeds: &mut [f64],
-    powers: &mut [f64],
-    districts: &mut [u32],
+    offsets: &mut Offsets,
+    numbers: &mut Numbers,
+    grades: &mut Grades,
+    curves: &mut Curves,
+    speeds: &mut Speeds,
+    powers: &mut Powers,
+    districts: &mut Districts,
 ) -> PathTpc {
     let r = with_table(
         w,
@@ -384,13 +350,13 @@ fn recalc_speeds(
     at: usize,
     s: Session,
     p: PathTpc,
-    offsets: &mut [f64],
-    numbers: &mut [u32],
-    grades: &mut [f64],
-    curves: &mut [f64],
-    speeds: &mut [f64],
-    powers: &mut [f64],
-    districts: &mut [u32],
+    offsets: &mut Offsets,
+    numbers: &mut Numbers,
+    grades: &mut Grades,
+    curves: &mut Curves,
+    speeds: &mut Speeds,
+    powers: &mut Powers,
+    districts: &mut Districts,
 ) -> PathTpc {
     let r = with_table(
         w,
@@ -423,13 +389,13 @@ fn recalc_speeds(
 // `finish`.
 fn finish(
     p: PathTpc,
-    offsets: &mut [f64],
-    numbers: &mut [u32],
-    grades: &mut [f64],
-    curves: &mut [f64],
-    speeds: &mut [f64],
-    powers: &mut [f64],
-    districts: &mut [u32],
+    offsets: &mut Offsets,
+    numbers: &mut Numbers,
+    grades: &mut Grades,
+    curves: &mut Curves,
+    speeds: &mut Speeds,
+    powers: &mut Powers,
+    districts: &mut Districts,
 ) -> PathTpc {
     let r = path_trim::finish::finish(
         p,
@@ -460,13 +426,13 @@ fn reindex(
     w: &[u64],
     at: usize,
     p: PathTpc,
-    offsets: &mut [f64],
-    numbers: &mut [u32],
-    grades: &mut [f64],
-    curves: &mut [f64],
-    speeds: &mut [f64],
-    powers: &mut [f64],
-    districts: &mut [u32],
+    offsets: &mut Offsets,
+    numbers: &mut Numbers,
+    grades: &mut Grades,
+    curves: &mut Curves,
+    speeds: &mut Speeds,
+    powers: &mut Powers,
+    districts: &mut Districts,
 ) -> PathTpc {
     let r = renumbered(
         w,
@@ -499,13 +465,13 @@ fn clear(
     w: &[u64],
     at: usize,
     p: PathTpc,
-    offsets: &mut [f64],
-    numbers: &mut [u32],
-    grades: &mut [f64],
-    curves: &mut [f64],
-    speeds: &mut [f64],
-    powers: &mut [f64],
-    districts: &mut [u32],
+    offsets: &mut Offsets,
+    numbers: &mut Numbers,
+    grades: &mut Grades,
+    curves: &mut Curves,
+    speeds: &mut Speeds,
+    powers: &mut Powers,
+    districts: &mut Districts,
 ) -> PathTpc {
     let r = path_trim::clear::clear(
         p,
@@ -550,13 +516,13 @@ fn located(
     w: &[u64],
     s: Session,
     p: PathTpc,
-    offsets: &[f64],
-    numbers: &[u32],
-    grades: &[f64],
-    curves: &[f64],
-    speeds: &[f64],
-    powers: &[f64],
-    districts: &[u32],
+    offsets: &Offsets,
+    numbers: &Numbers,
+    grades: &Grades,
+    curves: &Curves,
+    speeds: &Speeds,
+    powers: &Powers,
+    districts: &Districts,
 ) {
     let r = with_link_and_offset(
         state_at(w, s.state),
@@ -585,13 +551,13 @@ fn range(
     k: usize,
     wants_curves: bool,
     p: PathTpc,
-    offsets: &[f64],
-    numbers: &[u32],
-    grades: &[f64],
-    curves: &[f64],
-    speeds: &[f64],
-    powers: &[f64],
-    districts: &[u32],
+    offsets: &Offsets,
+    numbers: &Numbers,
+    grades: &Grades,
+    curves: &Curves,
+    speeds: &Speeds,
+    powers: &Powers,
+    districts: &Districts,
 ) {
     let r = link_range(
         p,
@@ -621,13 +587,13 @@ fn path_reads(
     at: usize,
     s: Session,
     p: PathTpc,
-    offsets: &[f64],
-    numbers: &[u32],
-    grades: &[f64],
-    curves: &[f64],
-    speeds: &[f64],
-    powers: &[f64],
-    districts: &[u32],
+    offsets: &Offsets,
+    numbers: &Numbers,
+    grades: &Grades,
+    curves: &Curves,
+    speeds: &Speeds,
+    powers: &Powers,
+    districts: &Districts,
 ) {
     match code {
         0x10 => located(
@@ -679,13 +645,13 @@ pub fn path_call(
     at: usize,
     s: Session,
     p: PathTpc,
-    offsets: &mut [f64],
-    numbers: &mut [u32],
-    grades: &mut [f64],
-    curves: &mut [f64],
-    speeds: &mut [f64],
-    powers: &mut [f64],
-    districts: &mut [u32],
+    offsets: &mut Offsets,
+    numbers: &mut Numbers,
+    grades: &mut Grades,
+    curves: &mut Curves,
+    speeds: &mut Speeds,
+    powers: &mut Powers,
+    districts: &mut Districts,
 ) -> PathTpc {
     match code {
         0x3 => new(

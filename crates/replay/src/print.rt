@@ -1,4 +1,11 @@
 // What is printed: an answer, its values, and the lists of a path.
+use crate::columns::Curves;
+use crate::columns::Districts;
+use crate::columns::Grades;
+use crate::columns::Numbers;
+use crate::columns::Offsets;
+use crate::columns::Powers;
+use crate::columns::Speeds;
 use libc::STDOUT_FILENO;
 use path::link_point::link_point_at;
 use path::path_tpc::Answer;
@@ -136,13 +143,13 @@ fn four_times(n: usize, col: &[u32]) -> usize {
 // The five lists of a path, and whether every entry past them is zero.
 pub fn lists(
     p: PathTpc,
-    offsets: &[f64],
-    numbers: &[u32],
-    grades: &[f64],
-    curves: &[f64],
-    speeds: &[f64],
-    powers: &[f64],
-    districts: &[u32],
+    offsets: &Offsets,
+    numbers: &Numbers,
+    grades: &Grades,
+    curves: &Curves,
+    speeds: &Speeds,
+    powers: &Powers,
+    districts: &Districts,
 ) {
     points(offsets, numbers, p.link_count);
     reals(b"grades", grades, thrice(p.grade_count, grades));

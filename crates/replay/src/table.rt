@@ -1,6 +1,9 @@
 // What the words stand for: numbers, columns, trains, positions and directions.
+use crate::words::count_at;
 use crate::words::entry;
 use crate::words::held;
+use crate::words::inside;
+use crate::words::next_column;
 use link::train_params::TrainParams;
 use link::train_params::TrainType;
 use lookup::lin_search_hint::Dir;
@@ -12,6 +15,11 @@ use si::Velocity;
 use train::train_state::TrainState;
 ghost use mathlib.Core.Path.{_≡_};
 ghost use lib.ListN.{length};
+
+// A column or a table that is laid out, as numbers and as floats, with zeros behind it.
+pub type Laid = [u32; 4096];
+
+pub type LaidFloats = [f64; 4096];
 
 // The f64 of its bits; every NaN is the same.
 fn float_of(bits: u64) -> f64 {
@@ -39,11 +47,11 @@ pub fn number_at(w: &[u64], at: usize, i: usize) -> u32 {
 }
 
 // The column at `at`, with zeros behind it. Its length is for callers that lend it as a slice.
-pub fn floats_at(w: &[u64], at: usize) -> [f64; 1024]
-    ensures { λ r. ⌜ 1024 ≡ length r ⌝ }
+pub fn floats_at(w: &[u64], at: usize) -> LaidFloats
+    ensures { λ r. ⌜ 4096 ≡ length r ⌝ }
 {
-    let mut col = [0.0f64; 1024];
-    let n = held(w, at, 1024);
+    let mut col = [0.0f64; 4096];
+    let n = held(w, at, 4096);
     let mut i = 0;
     while i < n {
         col[i] = float_at(w, at, i);
@@ -52,9 +60,9 @@ pub fn floats_at(w: &[u64], at: usize) -> [f64; 1024]
     col
 }
 
-pub fn numbers_at(w: &[u64], at: usize) -> [u32; 1024] {
-    let mut col = [0u32; 1024];
-    let n = held(w, at, 1024);
+pub fn numbers_at(w: &[u64], at: usize) -> Laid {
+    let mut col = [0u32; 4096];
+    let n = held(w, at, 4096);
     let mut i = 0;
     while i < n {
         col[i] = number_at(w, at, i);
@@ -63,17 +71,64 @@ pub fn numbers_at(w: &[u64], at: usize) -> [u32; 1024] {
     col
 }
 
-// A column that was laid out, without the zeros behind it.
-pub fn cut_floats<'a>(w: &[u64], at: usize, col: &'a [f64; 1024]) -> &'a [f64] {
-    let n = held(w, at, 1024);
-    let all: &[f64] = col;
-    &all[..n]
+// The first n entries of a column, all where it has fewer.
+fn cut_floats(col: &[f64], n: usize) -> &[f64] {
+    if n <= col.len() {
+        return &col[..n];
+    }
+    col
 }
 
-pub fn cut_numbers<'a>(w: &[u64], at: usize, col: &'a [u32; 1024]) -> &'a [u32] {
-    let n = held(w, at, 1024);
-    let all: &[u32] = col;
-    &all[..n]
+pub fn cut_numbers(col: &[u32], n: usize) -> &[u32] {
+    if n <= col.len() {
+        return &col[..n];
+    }
+    col
+}
+
+// Where column k of the table at `table` begins in the words.
+fn column_at(w: &[u64], table: usize, k: usize) -> usize {
+    let mut at = inside(w, table);
+    let mut i = 0;
+    while i < k {
+        at = next_column(w, at);
+        i += 1;
+    }
+    at
+}
+
+// How far b is behind a.
+fn behind(a: usize, b: usize) -> usize {
+    if a <= b {
+        return b - a;
+    }
+    0
+}
+
+// The n entries from `from` on, fewer where the column ends before.
+fn part_floats(col: &[f64], from: usize, n: usize) -> &[f64] {
+    if from <= col.len() {
+        return cut_floats(&col[from..], n);
+    }
+    cut_floats(col, 0)
+}
+
+fn part_numbers(col: &[u32], from: usize, n: usize) -> &[u32] {
+    if from <= col.len() {
+        return cut_numbers(&col[from..], n);
+    }
+    cut_numbers(col, 0)
+}
+
+// Column k of the table at `table`, which was laid out.
+pub fn floats_of<'a>(w: &[u64], table: usize, k: usize, laid: &'a LaidFloats) -> &'a [f64] {
+    let at = column_at(w, table, k);
+    part_floats(laid, behind(table, at), count_at(w, at))
+}
+
+pub fn numbers_of<'a>(w: &[u64], table: usize, k: usize, laid: &'a Laid) -> &'a [u32] {
+    let at = column_at(w, table, k);
+    part_numbers(laid, behind(table, at), count_at(w, at))
 }
 
 fn type_of(code: u32) -> TrainType {

@@ -1,4 +1,4 @@
--- `with_links`: filling keeps the lengths of the table's columns.
+-- `with_links`:
 use borrow.Author.Needs.{needs}
 use Rattle.plan.proofs.columns.with_links.Statement.{statement}
 use Rattle.plan.proofs.columns.with_links.Tie as tie
@@ -36,36 +36,6 @@ cut-numbers-requires-2 c κs = search needs
 with-path-requires : tie.Need-with-path-requires
 with-path-requires c κs = search needs
 
-same-length : tie.Need-same-length
-same-length c = c .before .before .before .before .before .before .before .before .before .before .before .before .before .before .before .before .before .before .before .before .before .before .before .before .before .before .before .before .before .before .before .before .before .before .before .fill-table .kept .1 .0
-
-same-length-2 : tie.Need-same-length-2
-same-length-2 c = c .before .before .before .before .before .before .before .before .before .before .before .before .before .before .before .before .before .before .before .before .before .before .before .before .before .before .before .before .before .before .before .before .before .before .before .fill-table .kept .1 .1 .0
-
-same-length-3 : tie.Need-same-length-3
-same-length-3 c = search needs
-
-same-length-4 : tie.Need-same-length-4
-same-length-4 c = search needs
-
-same-length-5 : tie.Need-same-length-5
-same-length-5 c = search needs
-
-same-length-6 : tie.Need-same-length-6
-same-length-6 c = search needs
-
-same-length-7 : tie.Need-same-length-7
-same-length-7 c = search needs
-
-same-length-8 : tie.Need-same-length-8
-same-length-8 c = search needs
-
-same-length-9 : tie.Need-same-length-9
-same-length-9 c = search needs
-
-same-length-10 : tie.Need-same-length-10
-same-length-10 c = search needs
-
 returns : tie.Need-returns
 returns c = search needs
 
@@ -84,14 +54,4 @@ with-links-spec =
     add-cut-numbers-2
     cut-numbers-requires-2
     with-path-requires
-    same-length
-    same-length-2
-    same-length-3
-    same-length-4
-    same-length-5
-    same-length-6
-    same-length-7
-    same-length-8
-    same-length-9
-    same-length-10
     returns)

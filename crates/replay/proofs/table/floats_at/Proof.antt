@@ -8,7 +8,7 @@ use Rattle.replay.proofs.table.floats_at.Statement.{statement}
 use Rattle.replay.proofs.table.floats_at.Tie as tie
 
 abbrev Inv-loop : tie.InvT-loop
-Inv-loop w at col₀ n i₀ col i = 1024 ≡ length col
+Inv-loop w at col₀ n i₀ col i = 4096 ≡ length col
 
 abbrev μ-loop : tie.MeasureT-loop
 μ-loop w at col₀ n i₀ col i = n - i
