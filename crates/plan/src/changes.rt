@@ -11,7 +11,6 @@ use link::train_params::TrainParams;
 use path::path_tpc::Answer;
 use path::path_tpc::PathAnswer;
 use path::path_tpc::PathTpc;
-use route::fields::float_at;
 use route::fill::fill_list;
 use route::kinds::CLEAR;
 use route::kinds::EXTEND;
@@ -39,80 +38,15 @@ fn step_of(r: PathAnswer) -> Step {
     }
 }
 
-fn extend(
-    text: &[u8],
-    at: usize,
-    train: TrainParams,
-    p: PathTpc,
-    offsets: &mut Offsets,
-    numbers: &mut Numbers,
-    grades: &mut Grades,
-    curves: &mut Curves,
-    speeds: &mut Speeds,
-    powers: &mut Powers,
-    districts: &mut Districts,
-    links: &[u32],
-    lengths: &[f64],
-    sets: &[u32],
-    elevs: &[f64],
-    headings: &[f64],
-    limits: &[f64],
-    codes: &[u32],
-    values: &[f64],
-    pool: &[f64],
-    regions: &[u32],
-) -> Step {
-    let mut list = [0u32; 1025];
-    let n = fill_list(text, at, &mut list);
-    step_of(path_extend::extend::extend(
-        p,
-        train,
-        cut_numbers(&list, n),
-        &mut *offsets,
-        &mut *numbers,
-        &mut *grades,
-        &mut *curves,
-        &mut *speeds,
-        &mut *powers,
-        &mut *districts,
-        links,
-        lengths,
-        sets,
-        elevs,
-        headings,
-        limits,
-        codes,
-        values,
-        pool,
-        regions,
-    ))
+// A list of links, or of new numbers, and how many there are.
+pub type List = [u32; 1025];
+
+pub fn list_of(text: &[u8], at: usize, list: &mut List) -> usize {
+    fill_list(text, at, &mut *list)
 }
 
-fn reindex(
-    text: &[u8],
-    at: usize,
-    p: PathTpc,
-    offsets: &mut Offsets,
-    numbers: &mut Numbers,
-    grades: &mut Grades,
-    curves: &mut Curves,
-    speeds: &mut Speeds,
-    powers: &mut Powers,
-    districts: &mut Districts,
-) -> Step {
-    let mut list = [0u32; 1025];
-    let n = fill_list(text, at, &mut list);
-    step_of(path_links::reindex::reindex(
-        p,
-        cut_numbers(&list, n),
-        &mut *offsets,
-        &mut *numbers,
-        &mut *grades,
-        &mut *curves,
-        &mut *speeds,
-        &mut *powers,
-        &mut *districts,
-    ))
+pub fn cut_list(list: &List, n: usize) -> &[u32] {
+    cut_numbers(list, n)
 }
 
 fn clear(
@@ -151,10 +85,10 @@ fn clear(
 
 // The calls that need no table.
 fn plain_change(
-    text: &[u8],
-    at: usize,
     kind: u32,
     train: TrainParams,
+    x: Length,
+    list: &[u32],
     p: PathTpc,
     offsets: &mut Offsets,
     numbers: &mut Numbers,
@@ -178,7 +112,7 @@ fn plain_change(
     }
     if kind == CLEAR {
         return clear(
-            Length(float_at(text, at, 1)),
+            x,
             p,
             &mut *offsets,
             &mut *numbers,
@@ -201,10 +135,9 @@ fn plain_change(
             &mut *districts,
         ));
     }
-    reindex(
-        text,
-        at,
+    step_of(path_links::reindex::reindex(
         p,
+        list,
         &mut *offsets,
         &mut *numbers,
         &mut *grades,
@@ -212,15 +145,15 @@ fn plain_change(
         &mut *speeds,
         &mut *powers,
         &mut *districts,
-    )
+    ))
 }
 
-// The call of the line at `at`.
+// A call of this kind, with the offset or the list that it is given.
 pub fn change(
-    text: &[u8],
-    at: usize,
     kind: u32,
     train: TrainParams,
+    x: Length,
+    list: &[u32],
     p: PathTpc,
     offsets: &mut Offsets,
     numbers: &mut Numbers,
@@ -241,11 +174,10 @@ pub fn change(
     regions: &[u32],
 ) -> Step {
     if kind == EXTEND {
-        return extend(
-            text,
-            at,
-            train,
+        return step_of(path_extend::extend::extend(
             p,
+            train,
+            list,
             &mut *offsets,
             &mut *numbers,
             &mut *grades,
@@ -263,7 +195,7 @@ pub fn change(
             values,
             pool,
             regions,
-        );
+        ));
     }
     if kind == RECALCULATE {
         return step_of(path_speeds::recalc_speeds::recalc_speeds(
@@ -289,10 +221,10 @@ pub fn change(
         ));
     }
     plain_change(
-        text,
-        at,
         kind,
         train,
+        x,
+        list,
         p,
         &mut *offsets,
         &mut *numbers,

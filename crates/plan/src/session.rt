@@ -1,6 +1,8 @@
 // One call after another.
 use crate::changes::Step;
 use crate::changes::change;
+use crate::changes::cut_list;
+use crate::changes::list_of;
 use crate::columns::Boards;
 use crate::columns::Borders;
 use crate::columns::Curves;
@@ -88,6 +90,10 @@ fn next(n: usize) -> usize {
         return n + 1;
     }
     n
+}
+
+fn end_line() {
+    say(b"\n");
 }
 
 // The last of n, from 0.
@@ -316,12 +322,15 @@ fn made(
     regions: &[u32],
 ) -> Step {
     let before = s.path;
-    let lost = lost_behind(before, Length(float_at(text, at, 1)), &*offsets, &*speeds);
+    let x = Length(float_at(text, at, 1));
+    let mut list = [0u32; 1025];
+    let n = list_of(text, at, &mut list);
+    let lost = lost_behind(before, x, &*offsets, &*speeds);
     let step = change(
-        text,
-        at,
         kind,
         train,
+        x,
+        cut_list(&list, n),
         before,
         &mut *offsets,
         &mut *numbers,
@@ -420,13 +429,27 @@ fn changed(
     behind(kind, s, step, h)
 }
 
+// The table of stretches.
+fn show_table(s: Session, train: TrainParams, speeds: &Speeds, boards: &Boards, tags: &Tags) {
+    let p = s.path;
+    let h = s.history;
+    table(
+        speeds,
+        p.speed_count,
+        boards,
+        tags,
+        h.limits,
+        Velocity(train.speed_max.0),
+    );
+}
+
 // A call that reads the path.
 fn looked(
     text: &[u8],
     at: usize,
     kind: u32,
     train: TrainParams,
-    s: Session,
+    mut s: Session,
     offsets: &Offsets,
     numbers: &Numbers,
     grades: &Grades,
@@ -436,29 +459,23 @@ fn looked(
     districts: &Districts,
     boards: &Boards,
     tags: &Tags,
-) -> Straps {
+) -> Session {
     let p = s.path;
-    let h = s.history;
-    let straps = s.straps;
     begins(s.line, kind);
     if kind == SHOW {
-        say(b"\n");
-        table(
-            speeds,
-            p.speed_count,
-            boards,
-            tags,
-            h.limits,
-            Velocity(train.speed_max.0),
-        );
-        return straps;
+        end_line();
+        show_table(s, train, speeds, boards, tags);
+        return s;
     }
     if kind == POWERS {
         list_powers(powers, districts, p.power_count);
-        return straps;
+        return s;
     }
     if kind == RESISTANCE {
-        return resistance_line(text, at, train, straps, p, grades, curves);
+        let straps = s.straps;
+        let after = resistance_line(text, at, train, straps, p, grades, curves);
+        s.straps = after;
+        return s;
     }
     read_line(
         text,
@@ -474,7 +491,18 @@ fn looked(
         powers,
         districts,
     );
-    straps
+    s
+}
+
+// The session at the next line, of this kind.
+fn at_line(kind: u32, mut s: Session) -> Session {
+    let line = next(s.line);
+    s.line = line;
+    if NEW <= kind {
+        let calls = next(s.calls);
+        s.calls = calls;
+    }
+    s
 }
 
 // One line of a route.
@@ -507,13 +535,8 @@ fn turn(
     heights: &mut Heights,
 ) -> Session {
     let kind = kind_of(text, at);
-    let mut s = before;
-    s.line = next(before.line);
-    if kind < NEW {
-        return s;
-    }
-    s.calls = next(before.calls);
-    if kind <= REINDEX {
+    let s = at_line(kind, before);
+    if (NEW <= kind) & (kind <= REINDEX) {
         return changed(
             text,
             at,
@@ -544,10 +567,10 @@ fn turn(
             &mut *heights,
         );
     }
-    if svg {
+    if svg | (kind < NEW) {
         return s;
     }
-    let straps = looked(
+    looked(
         text,
         at,
         kind,
@@ -562,9 +585,7 @@ fn turn(
         &*districts,
         &*boards,
         &*tags,
-    );
-    s.straps = straps;
-    s
+    )
 }
 
 // Progress of a run of many calls, to standard error.
@@ -618,14 +639,7 @@ fn result(
         );
         return;
     }
-    table(
-        speeds,
-        p.speed_count,
-        boards,
-        tags,
-        h.limits,
-        Velocity(train.speed_max.0),
-    );
+    show_table(s, train, speeds, boards, tags);
 }
 
 // All lines of a route that can be read.
