@@ -1,5 +1,10 @@
 -- `start_front`: the last records of the path.
+use mathlib.Core.Path.{ap, _∙_}
+use Rattle.lookup.specs.declared.path_res_coeff.PathResCoeff.{PathResCoeff}
+use Rattle.lookup.specs.Coeff.{standsAt, netOf}
+use Rattle.path_join.specs.Joined.{startingNet}
 use Rattle.path_extend.specs.Steps.{startFront}
+use Rattle.path_extend.proofs.Fronts.{same-front}
 use borrow.Author.Needs.{needs}
 use Rattle.path_extend.proofs.extend.start_front.Statement.{statement}
 use Rattle.path_extend.proofs.extend.start_front.Tie as tie
@@ -27,7 +32,14 @@ get-requires c κs = search needs
 
 returns : tie.Need-returns
 unfolding startFront
-returns c = cc (c .before .before .before .before .before .coeff-at .ensures, c .before .before .before .coeff-at2 .ensures, c .before .before .starting-net .ensures, c .get .ensures)
+returns c =
+    let a = c .before .before .before .before .before .before .before .before .before .before .before .before .before .args in
+    let grade = c .before .before .before .before .before .coeff-at .ensures in
+    same-front
+    (c .get .ensures)
+    (ap standsAt grade)
+    (c .before .before .starting-net .ensures ∙ ap (λ (x : PathResCoeff). startingNet (a .links .now) (a .elevs .now) (a .p .«grade_count») (netOf x) (a .list .now)) grade)
+    (ap netOf (c .before .before .before .coeff-at2 .ensures))
 
 pub start-front-spec : {M : Type 1} → statement M
 start-front-spec =
