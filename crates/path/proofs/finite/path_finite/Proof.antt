@@ -1,4 +1,6 @@
 -- `path_finite`: the five columns, in the definition's order.
+use mathlib.Core.Path.{ap₂}
+use mathlib.Core.Bool.{_&&_}
 use borrow.Author.Needs.{needs}
 use Rattle.path.specs.Sound.{pathFinite}
 use Rattle.path.proofs.finite.path_finite.Statement.{statement}
@@ -21,7 +23,7 @@ records-finite-requires-2 c κs = search needs
 
 returns : tie.Need-returns
 unfolding pathFinite
-returns c = cc
+returns c = ap₂ _&&_ (c .before .before .before .before .all-finite .ensures) (ap₂ _&&_ (c .before .before .before .coeffs-finite .ensures) (ap₂ _&&_ (c .before .before .coeffs-finite2 .ensures) (ap₂ _&&_ (c .before .records-finite .ensures) (c .records-finite2 .ensures))))
 
 pub path-finite-spec : {M : Type 1} → statement M
 path-finite-spec =

@@ -8,7 +8,7 @@ use Rattle.path.proofs.rest.zero_rest.Statement.{statement}
 use Rattle.path.proofs.rest.zero_rest.Tie as tie
 
 zero-from-requires : tie.Need-zero-from-requires
-zero-from-requires c κs = search needs
+zero-from-requires c κs = tt
 
 mul-zero-from : tie.Need-mul-zero-from
 mul-zero-from c =
@@ -17,7 +17,7 @@ mul-zero-from c =
     record { fits = omega (arith, bounds (a .p) l (c .before .before .before .before .before .before .before .before .before .before .before .before .before .pre) .0) }
 
 zero-from-requires-2 : tie.Need-zero-from-requires-2
-zero-from-requires-2 c κs = search needs
+zero-from-requires-2 c κs = tt
 
 mul-zero-from-2 : tie.Need-mul-zero-from-2
 mul-zero-from-2 c =
@@ -26,7 +26,7 @@ mul-zero-from-2 c =
     record { fits = omega (arith, bounds (a .p) l (c .before .before .before .before .before .before .before .before .before .before .before .before .before .before .before .before .before .before .pre) .1) }
 
 zero-from-requires-3 : tie.Need-zero-from-requires-3
-zero-from-requires-3 c κs = search needs
+zero-from-requires-3 c κs = tt
 
 mul-zero-from-3 : tie.Need-mul-zero-from-3
 mul-zero-from-3 c =
@@ -35,7 +35,7 @@ mul-zero-from-3 c =
     record { fits = omega (arith, bounds (a .p) l (c .before .before .before .before .before .before .before .before .before .before .before .before .before .before .before .before .before .before .before .before .before .before .before .pre) .2) }
 
 zero-from-requires-4 : tie.Need-zero-from-requires-4
-zero-from-requires-4 c κs = search needs
+zero-from-requires-4 c κs = tt
 
 mul-zero-from-4 : tie.Need-mul-zero-from-4
 mul-zero-from-4 c =
@@ -44,7 +44,7 @@ mul-zero-from-4 c =
     record { fits = omega (arith, bounds (a .p) l (c .before .before .before .before .before .before .before .before .before .before .before .before .before .before .before .before .before .before .before .before .before .before .before .before .before .before .before .before .pre) .3) }
 
 zero-from-requires-5 : tie.Need-zero-from-requires-5
-zero-from-requires-5 c κs = search needs
+zero-from-requires-5 c κs = tt
 
 mul-zero-from-5 : tie.Need-mul-zero-from-5
 mul-zero-from-5 c =
@@ -53,31 +53,31 @@ mul-zero-from-5 c =
     record { fits = omega (arith, bounds (a .p) l (c .before .before .before .before .before .before .before .before .before .before .before .before .before .before .before .before .before .before .before .before .before .before .before .before .before .before .before .before .before .before .before .before .before .pre) .4) }
 
 zero-from-requires-6 : tie.Need-zero-from-requires-6
-zero-from-requires-6 c κs = search needs
+zero-from-requires-6 c κs = tt
 
 zero-from-requires-7 : tie.Need-zero-from-requires-7
-zero-from-requires-7 c κs = search needs
+zero-from-requires-7 c κs = tt
 
 same-length : tie.Need-same-length
 same-length c = c .before .before .before .before .before .before .before .before .before .before .before .before .before .before .before .before .before .before .before .before .before .before .before .before .before .before .before .before .before .before .offsets .given
 
 same-length-2 : tie.Need-same-length-2
-same-length-2 c = search needs
+same-length-2 c = c .before .before .before .before .before .before .before .before .before .before .before .before .before .before .before .before .before .before .before .before .before .before .before .before .before .numbers .given
 
 same-length-3 : tie.Need-same-length-3
-same-length-3 c = search needs
+same-length-3 c = c .before .before .before .before .before .before .before .before .before .before .before .before .before .before .before .before .before .before .before .before .grades .given
 
 same-length-4 : tie.Need-same-length-4
-same-length-4 c = search needs
+same-length-4 c = c .before .before .before .before .before .before .before .before .before .before .before .before .before .before .before .curves .given
 
 same-length-5 : tie.Need-same-length-5
-same-length-5 c = search needs
+same-length-5 c = c .before .before .before .before .before .before .before .before .before .before .speeds .given
 
 same-length-6 : tie.Need-same-length-6
-same-length-6 c = search needs
+same-length-6 c = c .before .before .before .before .before .powers .given
 
 same-length-7 : tie.Need-same-length-7
-same-length-7 c = search needs
+same-length-7 c = c .before .districts .given
 
 returns : tie.Need-returns
 returns c =

@@ -1,4 +1,6 @@
 -- `within_bounds`: the five kinds of record, in the definition's order.
+use mathlib.Core.Path.{ap₂}
+use mathlib.Core.Bool.{_&&_}
 use borrow.Author.Needs.{needs}
 use Rattle.path.specs.Sound.{withinBounds}
 use Rattle.path.proofs.sound.within_bounds.Statement.{statement}
@@ -21,7 +23,7 @@ within-requires-5 c κs = search needs
 
 returns : tie.Need-returns
 unfolding withinBounds
-returns c = cc
+returns c = ap₂ _&&_ (c .before .before .before .before .within .ensures) (ap₂ _&&_ (c .before .before .before .within2 .ensures) (ap₂ _&&_ (c .before .before .within3 .ensures) (ap₂ _&&_ (c .before .within4 .ensures) (c .within5 .ensures))))
 
 pub within-bounds-spec : {M : Type 1} → statement M
 within-bounds-spec =
