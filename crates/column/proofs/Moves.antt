@@ -3,10 +3,10 @@ use Prim.Native.Nat.{ℕ, zero, suc, _+_, _-_, _≤_, _<_, min, zero-le}
 use native.Mathlib.Nat.{zero-add, suc-add}
 use native.Mathlib.Numerals.{add-one}
 use native.Mathlib.Omega.{arith}
-use mathlib.Core.Path.{_≡_, sym, ap, _∙_}
+use mathlib.Core.Path.{_≡_, refl, sym, ap, _∙_}
 use mathlib.Core.Logic.{_⊎_, inl, inr}
 use mathlib.Core.List.{List, [], _∷_, _++_, append-assoc}
-use lib.ListN.{length, take, drop, getD, set, length-drop, drop-of-length-le}
+use lib.ListN.{length, take, drop, getD, set, length-drop, length-set, drop-of-length-le}
 use lib.Seq.{slice, paste, paste-zero, paste-suc, length-paste, take-paste, drop-paste, take-at, drop-at, take-nil, take-take, take-add, drop-drop, getD-drop, length-take-le}
 use Rattle.ieee.proofs.Round.{split}
 use Rattle.column.specs.Entries.{filled, zeroFrom, moved, moveFront}
@@ -24,13 +24,29 @@ module _ {A : Type 0} where
       let e : f + (t - f) ≡ t = omega arith in
       ap (λ (k : ℕ). slice f k l) (sym e) ∙ slice-is f (t - f) l
 
-  -- ---- a copy: one more entry
-  pub copy-more : (d s : List A) (at from k : ℕ) (z : A) → at + k < length d → from + k < length s
-      → set (paste d at (drop from s) k) (at + k) (getD s (from + k) z) ≡ paste d at (drop from s) (k + 1)
-  copy-more d s at from k z h r =
-      ap (set (paste d at (drop from s) k) (at + k)) (sym (getD-drop from s k z))
-      ∙ paste-suc d at (drop from s) k z h (omega (arith, length-drop from s))
-      ∙ ap (paste d at (drop from s)) (sym (add-one k))
+  -- ---- a copy: d, made of d₀, has k of n entries of s
+  pub record Copied (d₀ : List A) (at : ℕ) (s : List A) (from n : ℕ) (d : List A) (k : ℕ) : Type 0 where
+    pub long : length d ≡ length d₀
+    pub within : k ≤ n
+    pub so-far : d ≡ paste d₀ at (drop from s) k
+
+  module _ {d₀ : List A} {at : ℕ} {s : List A} {from n : ℕ} where
+    pub copied-none : Copied d₀ at s from n d₀ 0
+    copied-none = record { long = refl; within = zero-le; so-far = paste-zero d₀ at (drop from s) }
+
+    module _ {d : List A} {k : ℕ} (m : Copied d₀ at s from n d k) where
+      pub copied-more : (z : A) → at + n ≤ length d₀ → from + n ≤ length s → k < n → Copied d₀ at s from n (set d (at + k) (getD s (from + k) z)) (k + 1)
+      copied-more z h r l = record {
+        long = simp length-set (m .long);
+        within = omega arith;
+        so-far = ap (λ (x : List A). set x (at + k) (getD s (from + k) z)) (m .so-far)
+            ∙ ap (set (paste d₀ at (drop from s) k) (at + k)) (sym (getD-drop from s k z))
+            ∙ paste-suc d₀ at (drop from s) k z (omega arith) (omega (arith, length-drop from s))
+            ∙ ap (paste d₀ at (drop from s)) (sym (add-one k));
+      }
+
+      pub copied-all : n ≤ k → d ≡ paste d₀ at (drop from s) n
+      copied-all h = let e : k ≡ n = omega arith in m .so-far ∙ rw e
 
   -- ---- what moving n entries makes: the length, the entries before, up to the end of and past the new places
   module _ (l : List A) (i j n : ℕ) (source : j + n ≤ length l) where
@@ -67,7 +83,7 @@ module _ {A : Type 0} where
   moved-none i j l = sym (paste-zero l i (drop j l))
 
   -- ---- down: k entries are moved, and then the next m
-  pub down-more : (l : List A) (i j k m : ℕ) → i ≤ j → j + (k + m) ≤ length l → moved (i + k) (j + k) m (moved i j k l) ≡ moved i j (k + m) l
+  down-more : (l : List A) (i j k m : ℕ) → i ≤ j → j + (k + m) ≤ length l → moved (i + k) (j + k) m (moved i j k l) ≡ moved i j (k + m) l
   unfolding moved
   down-more l i j k m h r =
       let p = moved i j k l in
@@ -76,6 +92,28 @@ module _ {A : Type 0} where
       let back : drop (i + k + m) p ≡ drop (i + k + m) l = drop-moved l i j k s (i + k + m) (omega arith) (omega arith) in
       let n : i + k + m ≡ i + (k + m) = omega arith in
       rw (take-moved l i j k s (omega arith), mid, back, n, take-add k m (drop j l), drop-drop k j l, append-assoc (take i l) (take k (drop j l)) (take m (drop (j + k) l)))
+
+  -- c, made of l, has k of n entries moved
+  pub record Downed (l : List A) (i j n : ℕ) (c : List A) (k : ℕ) : Type 0 where
+    pub long : length c ≡ length l
+    pub within : k ≤ n
+    pub so-far : c ≡ moved i j k l
+
+  module _ {l : List A} {i j n : ℕ} where
+    pub downed-none : Downed l i j n l 0
+    downed-none = record { long = refl; within = zero-le; so-far = sym (moved-none i j l) }
+
+    module _ {c : List A} {k : ℕ} (m : Downed l i j n c k) where
+      -- a block of b entries more, by which c becomes d
+      pub downed-more : {d : List A} (b : ℕ) → i ≤ j → j + n ≤ length l → k + b ≤ n → length d ≡ length c → d ≡ moved (i + k) (j + k) b c → Downed l i j n d (k + b)
+      downed-more b h r w q e = record {
+        long = q ∙ m .long;
+        within = w;
+        so-far = e ∙ ap (moved (i + k) (j + k) b) (m .so-far) ∙ down-more l i j k b h (omega arith);
+      }
+
+      pub downed-all : n ≤ k → c ≡ moved i j n l
+      downed-all h = let e : k ≡ n = omega arith in m .so-far ∙ rw e
 
   -- ---- up: the last n entries are moved, and then the m before them
   up-block : (l : List A) (i j m n : ℕ) → j ≤ i → i + (m + n) ≤ length l → moved i j m (moved (i + m) (j + m) n l) ≡ moved i j (m + n) l
