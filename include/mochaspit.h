@@ -43,8 +43,8 @@
  * _clear, _finish, _recalc_speeds, _reindex, _calc_idx, _set_link_and_offset, and of both types _new, _calc_res, _res_coeff_front,
  * _res_net_front, _path_tpc_idx_front, _fix_cache, of the strap _res_coeff_back and _res_net_back; and a link's records, which are added:
  * mochaspit_link_grades, mochaspit_link_curves.
- * Calls of our own, each of which does in one what others do one by one: mochaspit_clear_each for mochaspit_clear, mochaspit_strap_walk
- * for mochaspit_strap_calc_res.
+ * Calls of our own: mochaspit_posted_speed; and two that do in one what others do one by one, mochaspit_clear_each for mochaspit_clear,
+ * mochaspit_strap_walk for mochaspit_strap_calc_res.
  *
  *
  * COLUMNS
@@ -67,8 +67,8 @@
  *   districts  power limit: district number, 0 for none                  1           1,024
  *
  * Link k begins at link point k; the last link point is the path's end and has the last link's number (0 on a path without links).
- * The speed posted at an offset is that of the last speed point at or before it. A done call that may change a path leaves zeros in
- * every column from the counts to its end.
+ * The speed posted at an offset is that of the last speed point at or before it (mochaspit_posted_speed). A done call that may change
+ * a path leaves zeros in every column from the counts to its end.
  *
  * The link table. Links are numbered from 1; the entries of number 0 belong to no link and may hold anything. Entries of link i:
  *
@@ -239,6 +239,12 @@ typedef struct mochaspit_range_answer {
     mochaspit_answer answer;
     mochaspit_range range;
 } mochaspit_range_answer;
+
+/* An answer with a speed. */
+typedef struct mochaspit_posted_answer {
+    mochaspit_answer answer;
+    double speed;
+} mochaspit_posted_answer;
 
 /* An answer with an index in a list. */
 typedef struct mochaspit_searched {
@@ -458,6 +464,22 @@ mochaspit_range_answer mochaspit_link_grades(
 mochaspit_range_answer mochaspit_link_curves(
     mochaspit_path_tpc path,
     size_t k,
+    const double *offsets, size_t offsets_len,
+    const uint32_t *numbers, size_t numbers_len,
+    const double *grades, size_t grades_len,
+    const double *curves, size_t curves_len,
+    const double *speeds, size_t speeds_len,
+    const double *powers, size_t powers_len,
+    const uint32_t *districts, size_t districts_len);
+
+/*
+ * The speed posted at an offset: that of the last speed point at or before it.
+ * Questions: 1 of the path and the offset; 2; 10, the offset not before the first link point.
+ * Comes back: the speed, to the bit. Refused: 0.
+ */
+mochaspit_posted_answer mochaspit_posted_speed(
+    mochaspit_path_tpc path,
+    double offset,
     const double *offsets, size_t offsets_len,
     const uint32_t *numbers, size_t numbers_len,
     const double *grades, size_t grades_len,

@@ -111,6 +111,10 @@ int main(void)
     expect_done("set_link_and_offset", located.answer);
     printf("front: link %u, %g m from its beginning\n", (unsigned)located.state.link_idx_front, located.state.offset_in_link);
 
+    mochaspit_posted_answer posted = mochaspit_posted_speed(path, state.offset, PATH);
+    expect_done("posted_speed", posted.answer);
+    printf("posted at the front: %g m/s\n", posted.speed);
+
     mochaspit_range_answer own = mochaspit_link_grades(path, 0, PATH);
     expect_done("link_grades", own.answer);
     printf("grades of the first link: %zu, rising %g to the metre\n", own.range.len / MOCHASPIT_COEFF_WIDTH, grades[own.range.from + 1]);

@@ -141,6 +141,10 @@ impl Columns {
         call!(mochaspit_link_curves(path, k) reads self)
     }
 
+    pub fn posted_speed(&self, path: sys::PathTpc, offset: f64) -> sys::PostedAnswer {
+        call!(mochaspit_posted_speed(path, offset) reads self)
+    }
+
     pub fn locate(&self, state: sys::TrainState, path: sys::PathTpc) -> sys::StateAnswer {
         call!(mochaspit_set_link_and_offset(state, path) reads self)
     }

@@ -152,10 +152,11 @@ impl Path {
         self.record.is_finished
     }
 
-    /// The speed posted at an offset: that of the last speed point at or before it. None before the path's beginning.
+    /// The speed posted at an offset: that of the last speed point at or before it. None where the call is refused: with 1, the offset
+    /// is not finite, or with 10, it lies before the path's beginning.
     pub fn posted_speed(&self, offset: f64) -> Option<f64> {
-        let behind = self.speed_points().iter().rev().find(|p| p.offset <= offset);
-        behind.map(|p| p.speed)
+        let found = self.columns.posted_speed(self.record, offset);
+        judged(found.answer).ok().map(|()| found.speed)
     }
 
     /// The record and the columns, for calls that only read a path.

@@ -91,6 +91,13 @@ pub struct RangeAnswer {
 
 #[repr(C)]
 #[derive(Clone, Copy, Debug, Default)]
+pub struct PostedAnswer {
+    pub answer: Answer,
+    pub speed: f64,
+}
+
+#[repr(C)]
+#[derive(Clone, Copy, Debug, Default)]
 pub struct Searched {
     pub answer: Answer,
     pub idx: usize,
@@ -201,6 +208,7 @@ path_call!(mochaspit_extend(path: PathTpc, train: Train, list: *const u32, list_
 path_call!(mochaspit_recalc_speeds(path: PathTpc, train: Train) writes from table -> PathAnswer);
 path_call!(mochaspit_link_grades(path: PathTpc, k: usize) reads -> RangeAnswer);
 path_call!(mochaspit_link_curves(path: PathTpc, k: usize) reads -> RangeAnswer);
+path_call!(mochaspit_posted_speed(path: PathTpc, offset: f64) reads -> PostedAnswer);
 path_call!(mochaspit_set_link_and_offset(state: TrainState, path: PathTpc) reads -> StateAnswer);
 
 #[link(name = "capi", kind = "static")]

@@ -206,6 +206,8 @@ fn paths_that_do_not_hold_together() {
         refused(raw.clone(), 2, 0, |r| r.reindex(&[0, 4, 5]));
         refused(raw.clone(), 2, 0, |r| r.link_grades(0).answer);
         refused(raw.clone(), 2, 0, |r| r.link_curves(0).answer);
+        refused(raw.clone(), 2, 0, |r| r.posted_speed(60.0).answer);
+        refused(raw.clone(), 1, 0, |r| r.posted_speed(f64::NAN).answer);
         let found = raw.clone().locate(state);
         assert_eq!((found.answer, found.state.link_idx_front, found.state.offset_in_link), (answer(2, 0), 8, 3.0));
     }
@@ -224,6 +226,7 @@ fn paths_with_numbers_that_are_not_finite() {
                 4 => (raw.path.power_count, raw.powers[2]) = (1, x),
                 _ => raw.grades[4] = x,
             }
+            refused(raw.clone(), 1, 0, |r| r.posted_speed(60.0).answer);
             refused(raw, 1, 0, |r| r.finish());
         }
     }
@@ -238,6 +241,25 @@ fn ranges_of_a_link() {
     assert_eq!((found.answer, found.range), (answer(0, 0), sys::Range { from: 0, len: 3 }));
     let found = raw.link_curves(2);
     assert_eq!((found.answer, found.range), (answer(10, 0), sys::Range::default()));
+}
+
+#[test]
+fn speeds_at_an_offset() {
+    let points = [(0.0, 30.0), (5.0, 10.0), (5.0, 25.0), (50.0, 20.0), (200.0, -15.0), (250.0, 30.0), (300.0, -0.0)];
+    for n in 1..=points.len() {
+        let mut raw = path().with_speeds(&points[..n]);
+        for x in [-0.0, 4.9, 5.0, 5.1, 49.9, 50.0, 199.9, 200.0, 249.9, 250.0, 251.0, 300.0, 1e308] {
+            let behind = points[..n].iter().rfind(|p| p.0 <= x).unwrap().1;
+            let found = raw.posted_speed(x);
+            assert_eq!((found.answer, found.speed.to_bits()), (answer(0, 0), behind.to_bits()), "{n} points, at {x}");
+        }
+        for (x, number) in [(f64::NAN, 1), (f64::INFINITY, 1), (f64::NEG_INFINITY, 1), (-0.1, 10), (-1e308, 10)] {
+            let found = raw.posted_speed(x);
+            assert_eq!((found.answer, found.speed.to_bits()), (answer(number, 0), 0), "at {x}");
+        }
+    }
+    let fell = path().with_speeds(&[(0.0, 30.0), (50.0, 20.0), (49.0, 10.0)]);
+    refused(fell, 2, 0, |r| r.posted_speed(60.0).answer);
 }
 
 #[test]

@@ -123,7 +123,8 @@ fn a_tail_is_added_unless_head_end() {
     assert_eq!(path.posted_speed(f64::NAN), None);
     assert_eq!(path.posted_speed(20.0), Some(15.0));
     assert_eq!(path.posted_speed(89.9), Some(15.0));
-    assert_eq!(path.posted_speed(f64::INFINITY), Some(train().speed_max));
+    assert_eq!(path.posted_speed(f64::MAX), Some(train().speed_max));
+    assert_eq!(path.posted_speed(f64::INFINITY), None);
 }
 
 #[test]

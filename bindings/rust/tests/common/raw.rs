@@ -179,6 +179,10 @@ impl Raw {
         columns!(mochaspit_link_curves, self, self.path, k)
     }
 
+    pub fn posted_speed(&mut self, offset: f64) -> sys::PostedAnswer {
+        columns!(mochaspit_posted_speed, self, self.path, offset)
+    }
+
     pub fn locate(&mut self, state: sys::TrainState) -> sys::StateAnswer {
         columns!(mochaspit_set_link_and_offset, self, state, self.path)
     }

@@ -55,6 +55,9 @@ pub fn extend(path: PathTpc, train: Train, list: &[u32], c: &mut Cols, f: &Flat)
 pub fn recalc_speeds(path: PathTpc, train: Train, c: &mut Cols, f: &Flat) -> PathAnswer {
     with_columns!(mochaspit_recalc_speeds, c, f, path, train)
 }
+pub fn posted_speed(path: PathTpc, offset: f64, c: &Cols) -> PostedAnswer {
+    with_columns!(mochaspit_posted_speed, c, read, path, offset)
+}
 pub fn link_grades(path: PathTpc, k: usize, c: &Cols) -> RangeAnswer {
     with_columns!(mochaspit_link_grades, c, read, path, k)
 }
@@ -131,6 +134,25 @@ fn no_trims(path: PathTpc, t: Train, c: &Cols, f: &Flat) {
     }
 }
 
+/// The speed posted about x is that of the last speed point at or before the offset, found by a plain search; refused, it is +0. What questions 1 and 2
+/// say of the path, a list of trims without an offset says too.
+fn posted_as_searched(path: PathTpc, x: f64, c: &Cols) {
+    let judged = clear_each(path, &[], &mut c.clone()).outcome.answer.number;
+    let points = c.speeds.chunks_exact(2).take(path.speed_count);
+    let at_points = points.clone().step_by(1 + path.speed_count.min(4096) / 8).map(|p| p[0]);
+    for y in [x, x.next_up(), x.next_down(), x * 0.5, x * 1.5, -x, f64::INFINITY, f64::NAN].into_iter().chain(at_points) {
+        let number = match judged {
+            1 => 1,
+            _ if !y.is_finite() => 1,
+            0 if y < c.offsets[0] => 10,
+            n => n,
+        };
+        let behind = points.clone().filter(|p| number == 0 && p[0] <= y).last().map_or(0, |p| p[1].to_bits());
+        let a = posted_speed(path, y, c);
+        assert_eq!((a.answer.number, a.answer.place, a.speed.to_bits()), (number, 0, behind), "the speed posted at {y} differs");
+    }
+}
+
 /// A call on a path: number, place and the words of what it hands back, and the record to go on with.
 pub fn path_call(call: &Call, path: PathTpc, t: Train, c: &mut Cols, f: &Flat) -> (Vec<u64>, PathTpc) {
     let plain = |a: PathAnswer| (row(a.answer, &path_words(&a.path)), a.path);
@@ -141,6 +163,7 @@ pub fn path_call(call: &Call, path: PathTpc, t: Train, c: &mut Cols, f: &Flat) -
         Call::Clear(x) => {
             trims_as_calls(path, *x, c);
             no_trims(path, t, c, f);
+            posted_as_searched(path, *x, c);
             let a = clear(path, *x, c);
             let (mut v, p) = plain(a.outcome);
             v.extend(dropped_words(&a.dropped));
@@ -152,6 +175,7 @@ pub fn path_call(call: &Call, path: PathTpc, t: Train, c: &mut Cols, f: &Flat) -
         Call::LinkGrades(k) => range(link_grades(path, *k, c)),
         Call::LinkCurves(k) => range(link_curves(path, *k, c)),
         Call::Locate(s) => {
+            posted_as_searched(path, s.offset, c);
             let a = set_link_and_offset(*s, path, c);
             (row(a.answer, &state_words(&a.state)), path)
         }
