@@ -5,6 +5,7 @@ use lookup::lin_search_hint::Dir;
 use path::path_tpc::Answer;
 use path::path_tpc::PathTpc;
 use path_links::link_records::link_range;
+use path_posted::posted_speed::posted_speed;
 use resistance::strap::Strap;
 use resistance::strap::StrapAnswer;
 use route::fields::bytes_at;
@@ -13,6 +14,7 @@ use route::fields::direction_code;
 use route::fields::float_at;
 use route::kinds::CURVES;
 use route::kinds::LOCATE;
+use route::kinds::POSTED;
 use show::plain;
 use show::real;
 use show::real_in;
@@ -94,6 +96,38 @@ fn locate(
         real(t.offset_in_link.0);
         say(b", back in link ");
         plain(t.link_idx_back as usize);
+        say(b"\n");
+    }
+}
+
+// The speed posted at an offset.
+fn posted(
+    x: f64,
+    p: PathTpc,
+    offsets: &[f64],
+    numbers: &[u32],
+    grades: &[f64],
+    curves: &[f64],
+    speeds: &[f64],
+    powers: &[f64],
+    districts: &[u32],
+) {
+    let r = posted_speed(
+        p,
+        Length(x),
+        offsets,
+        numbers,
+        grades,
+        curves,
+        speeds,
+        powers,
+        districts,
+    );
+    if outcome(r.answer) {
+        say(b": ");
+        real(r.speed.0);
+        say(b" posted at ");
+        real(x);
         say(b"\n");
     }
 }
@@ -267,7 +301,7 @@ pub fn fixed(s: Straps, grades: usize, curves: usize) -> Straps {
     no_straps()
 }
 
-// The call of the line at `at`: locate, grades or curves.
+// The call of the line at `at`: locate, posted, grades or curves.
 pub fn read_line(
     text: &[u8],
     at: usize,
@@ -285,6 +319,20 @@ pub fn read_line(
     if kind == LOCATE {
         locate(
             position(train, float_at(text, at, 1), float_at(text, at, 2), 0.0),
+            p,
+            offsets,
+            numbers,
+            grades,
+            curves,
+            speeds,
+            powers,
+            districts,
+        );
+        return;
+    }
+    if kind == POSTED {
+        posted(
+            float_at(text, at, 1),
             p,
             offsets,
             numbers,

@@ -19,6 +19,7 @@ use route::kinds::HEADING;
 use route::kinds::LINK;
 use route::kinds::LOCATE;
 use route::kinds::NEW;
+use route::kinds::POSTED;
 use route::kinds::POWER;
 use route::kinds::POWERS;
 use route::kinds::RECALCULATE;
@@ -90,6 +91,7 @@ pub fn call_name(kind: u32) {
         RECALCULATE => say(b"recalculate"),
         REINDEX => say(b"reindex"),
         LOCATE => say(b"locate"),
+        POSTED => say(b"posted"),
         RESISTANCE => say(b"resistance"),
         GRADES => say(b"grades"),
         CURVES => say(b"curves"),
@@ -138,6 +140,8 @@ fn call_form(kind: u32) {
         say(b"reindex NEW .. (at most 1,025 whole numbers, for the old numbers 0, 1, 2, ..)");
     } else if kind == LOCATE {
         say(b"locate FRONT BACK");
+    } else if kind == POSTED {
+        say(b"posted OFFSET");
     } else if kind == RESISTANCE {
         say(b"resistance unk|fwd|bwd FRONT BACK WEIGHT");
     } else if (kind == GRADES) | (kind == CURVES) {

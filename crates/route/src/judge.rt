@@ -20,6 +20,7 @@ use crate::kinds::LIMIT;
 use crate::kinds::LINK;
 use crate::kinds::LOCATE;
 use crate::kinds::NEW;
+use crate::kinds::POSTED;
 use crate::kinds::POWER;
 use crate::kinds::REINDEX;
 use crate::kinds::RESISTANCE;
@@ -195,7 +196,7 @@ fn call_misfit(text: &[u8], at: usize, kind: u32) -> usize {
     if (kind == EXTEND) | (kind == REINDEX) {
         return misfit_in_list(text, at);
     }
-    if kind == CLEAR {
+    if (kind == CLEAR) | (kind == POSTED) {
         return misfit(text, at, b"n");
     }
     if kind == LOCATE {

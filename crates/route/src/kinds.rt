@@ -44,7 +44,9 @@ pub const POWERS: u32 = 19;
 
 pub const SHOW: u32 = 20;
 
-pub const UNKNOWN: u32 = 21;
+pub const POSTED: u32 = 21;
+
+pub const UNKNOWN: u32 = 22;
 
 // The kind of a line of the train or of the link table.
 fn table_kind(w: &[u8]) -> u32 {
@@ -102,6 +104,9 @@ fn change_kind(w: &[u8]) -> u32 {
 fn reading_kind(w: &[u8]) -> u32 {
     if is_word(w, b"locate") {
         return LOCATE;
+    }
+    if is_word(w, b"posted") {
+        return POSTED;
     }
     if is_word(w, b"resistance") {
         return RESISTANCE;
