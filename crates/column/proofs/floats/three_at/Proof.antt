@@ -12,22 +12,22 @@ mul-k : tie.Need-mul-k
 mul-k c = search needs
 
 get-requires : tie.Need-get-requires
-get-requires c κs = search needs
+get-requires c κs = tt
 
 add-get : tie.Need-add-get
 add-get c = search needs
 
 get-requires-2 : tie.Need-get-requires-2
-get-requires-2 c κs = search needs
+get-requires-2 c κs = tt
 
 add-get-2 : tie.Need-add-get-2
 add-get-2 c = search needs
 
 get-requires-3 : tie.Need-get-requires-3
-get-requires-3 c κs = search needs
+get-requires-3 c κs = tt
 
 returns : tie.Need-returns
-returns c = cc (three-entries (c .before .before .before .before .before .args .col .now) (c .before .before .before .before .before .args .i))
+returns c = rw (c .before .before .get .ensures, c .before .get2 .ensures, c .get3 .ensures) (sym (three-entries (c .before .before .before .before .before .args .col .now) (c .before .before .before .before .before .args .i)))
 
 returns-2 : tie.Need-returns-2
 returns-2 c = rw zero-literal (sym (record-past three (c .before .before .args .col .now) (c .before .before .args .i) (omega arith)))

@@ -12,16 +12,16 @@ mul-k : tie.Need-mul-k
 mul-k c = search needs
 
 get-requires : tie.Need-get-requires
-get-requires c κs = search needs
+get-requires c κs = tt
 
 add-get : tie.Need-add-get
 add-get c = search needs
 
 get-requires-2 : tie.Need-get-requires-2
-get-requires-2 c κs = search needs
+get-requires-2 c κs = tt
 
 returns : tie.Need-returns
-returns c = cc (two-entries (c .before .before .before .before .args .col .now) (c .before .before .before .before .args .i))
+returns c = rw (c .before .get .ensures, c .get2 .ensures) (sym (two-entries (c .before .before .before .before .args .col .now) (c .before .before .before .before .args .i)))
 
 returns-2 : tie.Need-returns-2
 returns-2 c = rw zero-literal (sym (record-past two (c .before .before .args .col .now) (c .before .before .args .i) (omega arith)))

@@ -11,28 +11,28 @@ mul-k : tie.Need-mul-k
 mul-k c = search needs
 
 get-requires : tie.Need-get-requires
-get-requires c κs = search needs
+get-requires c κs = tt
 
 add-get : tie.Need-add-get
 add-get c = search needs
 
 get-requires-2 : tie.Need-get-requires-2
-get-requires-2 c κs = search needs
+get-requires-2 c κs = tt
 
 add-get-2 : tie.Need-add-get-2
 add-get-2 c = search needs
 
 get-requires-3 : tie.Need-get-requires-3
-get-requires-3 c κs = search needs
+get-requires-3 c κs = tt
 
 add-get-3 : tie.Need-add-get-3
 add-get-3 c = search needs
 
 get-requires-4 : tie.Need-get-requires-4
-get-requires-4 c κs = search needs
+get-requires-4 c κs = tt
 
 returns : tie.Need-returns
-returns c = cc (four-entries (c .before .before .before .before .before .before .args .col .now) (c .before .before .before .before .before .before .args .i))
+returns c = rw (c .before .before .before .get .ensures, c .before .before .get2 .ensures, c .before .get3 .ensures, c .get4 .ensures) (sym (four-entries (c .before .before .before .before .before .before .args .col .now) (c .before .before .before .before .before .before .args .i)))
 
 returns-2 : tie.Need-returns-2
 returns-2 c = (sym (record-past four (c .before .before .args .col .now) (c .before .before .args .i) (omega arith)))
