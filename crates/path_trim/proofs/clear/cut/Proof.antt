@@ -8,10 +8,10 @@ use Rattle.path_trim.proofs.clear.cut.Statement.{statement}
 use Rattle.path_trim.proofs.clear.cut.Tie as tie
 
 get-requires : tie.Need-get-requires
-get-requires c κs = search needs
+get-requires c κs = tt
 
 move-front-requires : tie.Need-move-front-requires
-move-front-requires c κs = search needs
+move-front-requires c κs = tt
 
 mul-move-front : tie.Need-mul-move-front
 mul-move-front c =
@@ -26,7 +26,7 @@ mul-move-front-2 c =
     record { fits = omega (arith, bounds (a .p) l (sound-within (a .p) l (c .before .before .before .before .before .before .before .before .before .before .before .before .before .before .before .pre .0) .1) .0) }
 
 move-front-requires-2 : tie.Need-move-front-requires-2
-move-front-requires-2 c κs = search needs
+move-front-requires-2 c κs = tt
 
 mul-move-front-3 : tie.Need-mul-move-front-3
 mul-move-front-3 c =
@@ -41,7 +41,7 @@ mul-move-front-4 c =
     record { fits = omega (arith, bounds (a .p) l (sound-within (a .p) l (c .before .before .before .before .before .before .before .before .before .before .before .before .before .before .before .before .before .before .before .before .before .pre .0) .1) .1) }
 
 move-front-requires-3 : tie.Need-move-front-requires-3
-move-front-requires-3 c κs = search needs
+move-front-requires-3 c κs = tt
 
 mul-move-front-5 : tie.Need-mul-move-front-5
 mul-move-front-5 c =
@@ -56,7 +56,7 @@ mul-move-front-6 c =
     record { fits = omega (arith, bounds (a .p) l (sound-within (a .p) l (c .before .before .before .before .before .before .before .before .before .before .before .before .before .before .before .before .before .before .before .before .before .before .before .before .before .before .before .pre .0) .1) .2) }
 
 move-front-requires-4 : tie.Need-move-front-requires-4
-move-front-requires-4 c κs = search needs
+move-front-requires-4 c κs = tt
 
 clear-points-requires : tie.Need-clear-points-requires
 clear-points-requires c κs =
@@ -77,10 +77,10 @@ mul-move-front-8 c =
     record { fits = omega (arith, bounds (a .p) l (sound-within (a .p) l (c .before .before .before .before .before .before .before .before .before .before .before .before .before .before .before .before .before .before .before .before .before .before .before .before .before .before .before .before .before .before .before .before .before .before .before .before .before .pre .0) .1) .4) }
 
 move-front-requires-5 : tie.Need-move-front-requires-5
-move-front-requires-5 c κs = search needs
+move-front-requires-5 c κs = tt
 
 move-front-requires-6 : tie.Need-move-front-requires-6
-move-front-requires-6 c κs = search needs
+move-front-requires-6 c κs = tt
 
 sub-t21 : tie.Need-sub-t21
 sub-t21 c = omega (arith, c .before .before .before .before .before .before .before .before .before .before .before .before .before .before .before .before .before .before .before .before .before .before .before .before .before .before .before .before .before .before .before .before .before .before .before .before .before .before .before .before .before .before .before .before .before .pre .1 .0)
@@ -119,10 +119,10 @@ same-length-5 : tie.Need-same-length-5
 same-length-5 c = c .before .before .before .before .before .before .before .before .before .before .before .before .before .before .before .before .before .before .speeds .given
 
 same-length-6 : tie.Need-same-length-6
-same-length-6 c = search needs
+same-length-6 c = c .before .before .before .before .before .before .before .before .before .before .before .before .powers .given
 
 same-length-7 : tie.Need-same-length-7
-same-length-7 c = search needs
+same-length-7 c = c .before .before .before .before .before .before .before .before .districts .given
 
 returns : tie.Need-returns
 returns c =

@@ -1,4 +1,5 @@
 -- `new`: question 1, question 9, and then zeros and the speed point.
+use mathlib.Core.Path.{refl, _∙_}
 use lib.Ieee.{ofBits}
 use borrow.Author.Tests.{not-true, not-false}
 use Rattle.path.specs.Records.{columns}
@@ -29,25 +30,25 @@ refused-requires-2 : tie.Need-refused-requires-2
 refused-requires-2 c κs = search needs
 
 same-length : tie.Need-same-length
-same-length c = search needs
+same-length c = refl
 
 same-length-2 : tie.Need-same-length-2
-same-length-2 c = search needs
+same-length-2 c = refl
 
 same-length-3 : tie.Need-same-length-3
-same-length-3 c = search needs
+same-length-3 c = refl
 
 same-length-4 : tie.Need-same-length-4
-same-length-4 c = search needs
+same-length-4 c = refl
 
 same-length-5 : tie.Need-same-length-5
-same-length-5 c = search needs
+same-length-5 c = refl
 
 same-length-6 : tie.Need-same-length-6
-same-length-6 c = search needs
+same-length-6 c = refl
 
 same-length-7 : tie.Need-same-length-7
-same-length-7 c = search needs
+same-length-7 c = refl
 
 returns-2 : tie.Need-returns-2
 returns-2 c =
@@ -56,49 +57,49 @@ returns-2 c =
     refused-by-9 (a .train) l (c .before .before .before .before .before .before .before .before .before .before .before .before .train-finite .ensures) (not-false _ (c .before .before .before .before .before .before .before .before .before .before .before .if1 .left)) (c .before .before .before .before .before .before .before .before .before .before .start-record .ensures) (c .before .before .within-bounds .ensures) (not-true _ (c .before .if2 .taken)) (c .refused2 .ensures)
 
 zero-from-requires : tie.Need-zero-from-requires
-zero-from-requires c κs = search needs
+zero-from-requires c κs = tt
 
 zero-from-requires-2 : tie.Need-zero-from-requires-2
-zero-from-requires-2 c κs = search needs
+zero-from-requires-2 c κs = tt
 
 zero-from-requires-3 : tie.Need-zero-from-requires-3
-zero-from-requires-3 c κs = search needs
+zero-from-requires-3 c κs = tt
 
 zero-from-requires-4 : tie.Need-zero-from-requires-4
-zero-from-requires-4 c κs = search needs
+zero-from-requires-4 c κs = tt
 
 zero-from-requires-5 : tie.Need-zero-from-requires-5
-zero-from-requires-5 c κs = search needs
+zero-from-requires-5 c κs = tt
 
 zero-from-requires-6 : tie.Need-zero-from-requires-6
-zero-from-requires-6 c κs = search needs
+zero-from-requires-6 c κs = tt
 
 zero-from-requires-7 : tie.Need-zero-from-requires-7
-zero-from-requires-7 c κs = search needs
+zero-from-requires-7 c κs = tt
 
 put-two-requires : tie.Need-put-two-requires
 put-two-requires c κs = search needs
 
 same-length-8 : tie.Need-same-length-8
-same-length-8 c = search needs
+same-length-8 c = c .before .before .before .before .before .before .before .before .before .before .before .before .before .before .before .before .before .before .before .before .before .before .before .before .before .before .before .before .before .offsets .given
 
 same-length-9 : tie.Need-same-length-9
-same-length-9 c = search needs
+same-length-9 c = c .before .before .before .before .before .before .before .before .before .before .before .before .before .before .before .before .before .before .before .before .before .before .before .before .before .numbers .given
 
 same-length-10 : tie.Need-same-length-10
-same-length-10 c = search needs
+same-length-10 c = c .before .before .before .before .before .before .before .before .before .before .before .before .before .before .before .before .before .before .before .before .before .grades .given
 
 same-length-11 : tie.Need-same-length-11
-same-length-11 c = search needs
+same-length-11 c = c .before .before .before .before .before .before .before .before .before .before .before .before .before .before .before .before .before .curves .given
 
 same-length-12 : tie.Need-same-length-12
-same-length-12 c = search needs
+same-length-12 c = c .before .speeds2 .given ∙ c .before .before .before .before .before .before .before .before .before .before .before .before .before .speeds .given
 
 same-length-13 : tie.Need-same-length-13
-same-length-13 c = search needs
+same-length-13 c = c .before .before .before .before .before .before .before .before .before .powers .given
 
 same-length-14 : tie.Need-same-length-14
-same-length-14 c = search needs
+same-length-14 c = c .before .before .before .before .before .districts .given
 
 returns-3 : tie.Need-returns-3
 unfolding ofBits
