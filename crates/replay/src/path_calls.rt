@@ -10,6 +10,7 @@ use crate::list_calls::Session;
 use crate::print::done;
 use crate::print::end;
 use crate::print::flag;
+use crate::print::is_done;
 use crate::print::lists;
 use crate::print::real;
 use crate::print::whole;
@@ -25,9 +26,11 @@ use crate::table::state_at;
 use crate::table::train_at;
 use crate::words::entry;
 use crate::words::held;
+use path::link_point::LinkPoint;
 use path::path_tpc::PathAnswer;
 use path::path_tpc::PathTpc;
 use path_links::link_records::link_range;
+use show::say;
 use si::Length;
 use train::set_link_and_offset::with_link_and_offset;
 
@@ -222,52 +225,35 @@ fn renumbered(
     )
 }
 
-// Ends the line of a call that may change a path, and shows the path; the path afterwards.
-fn shown(
-    name: &[u8],
-    r: PathAnswer,
-    before: PathTpc,
-    offsets: &Offsets,
-    numbers: &Numbers,
-    grades: &Grades,
-    curves: &Curves,
-    speeds: &Speeds,
-    powers: &Powers,
-    districts: &Districts,
-) -> PathTpc {
+// The name of a call that may change a path.
+fn call_name(code: u64) {
+    match code {
+        0x3 => say(b"new"),
+        0x4 => say(b"extend"),
+        0x6 => say(b"finish"),
+        0x7 => say(b"recalc_speeds"),
+        _ => say(b"reindex"),
+    }
+}
+
+// The line of such a call's answer; the path's record afterwards.
+fn answered(code: u64, r: PathAnswer, before: PathTpc) -> PathTpc {
+    call_name(code);
     let answer = r.answer;
-    if done(name, answer) {
+    if is_done(answer) {
         let p = r.path;
         flag(p.is_finished);
         end();
-        lists(
-            p,
-            offsets,
-            numbers,
-            grades,
-            curves,
-            speeds,
-            powers,
-            districts,
-        );
         return p;
     }
-    lists(
-        before,
-        offsets,
-        numbers,
-        grades,
-        curves,
-        speeds,
-        powers,
-        districts,
-    );
     before
 }
 
-// `new`.
-fn new(
+// The call itself.
+fn change(
     w: &[u64],
+    code: u64,
+    at: usize,
     s: Session,
     p: PathTpc,
     offsets: &mut Offsets,
@@ -277,34 +263,61 @@ fn new(
     speeds: &mut Speeds,
     powers: &mut Powers,
     districts: &mut Districts,
-) -> PathTpc {
-    let r = path_trim::new::new(
-        train_at(w, s.train),
-        &mut *offsets,
-        &mut *numbers,
-        &mut *grades,
-        &mut *curves,
-        &mut *speeds,
-        &mut *powers,
-        &mut *districts,
-    );
-    shown(
-        b"new",
-        r,
-        p,
-        &*offsets,
-        &*numbers,
-        &*grades,
-        &*curves,
-        &*speeds,
-        &*powers,
-        &*districts,
-    )
+) -> PathAnswer {
+    match code {
+        0x3 => path_trim::new::new(
+            train_at(w, s.train),
+            &mut *offsets,
+            &mut *numbers,
+            &mut *grades,
+            &mut *curves,
+            &mut *speeds,
+            &mut *powers,
+            &mut *districts,
+        ),
+        0x6 => path_trim::finish::finish(
+            p,
+            &mut *offsets,
+            &mut *numbers,
+            &mut *grades,
+            &mut *curves,
+            &mut *speeds,
+            &mut *powers,
+            &mut *districts,
+        ),
+        0x8 => renumbered(
+            w,
+            at,
+            p,
+            &mut *offsets,
+            &mut *numbers,
+            &mut *grades,
+            &mut *curves,
+            &mut *speeds,
+            &mut *powers,
+            &mut *districts,
+        ),
+        _ => with_table(
+            w,
+            code,
+            at,
+            s,
+            p,
+            &mut *offsets,
+            &mut *numbers,
+            &mut *grades,
+            &mut *curves,
+            &mut *speeds,
+            &mut *powers,
+            &mut *districts,
+        ),
+    }
 }
 
-// `extend`.
-fn extend(
+// A call that may change a path, its answer and the path's lists; the path afterwards.
+fn changed(
     w: &[u64],
+    code: u64,
     at: usize,
     s: Session,
     p: PathTpc,
@@ -316,9 +329,9 @@ fn extend(
     powers: &mut Powers,
     districts: &mut Districts,
 ) -> PathTpc {
-    let r = with_table(
+    let r = change(
         w,
-        0x4,
+        code,
         at,
         s,
         p,
@@ -330,10 +343,9 @@ fn extend(
         &mut *powers,
         &mut *districts,
     );
-    shown(
-        b"extend",
-        r,
-        p,
+    let after = answered(code, r, p);
+    lists(
+        after,
         &*offsets,
         &*numbers,
         &*grades,
@@ -341,129 +353,30 @@ fn extend(
         &*speeds,
         &*powers,
         &*districts,
-    )
-}
-
-// `recalc_speeds`.
-fn recalc_speeds(
-    w: &[u64],
-    at: usize,
-    s: Session,
-    p: PathTpc,
-    offsets: &mut Offsets,
-    numbers: &mut Numbers,
-    grades: &mut Grades,
-    curves: &mut Curves,
-    speeds: &mut Speeds,
-    powers: &mut Powers,
-    districts: &mut Districts,
-) -> PathTpc {
-    let r = with_table(
-        w,
-        0x7,
-        at,
-        s,
-        p,
-        &mut *offsets,
-        &mut *numbers,
-        &mut *grades,
-        &mut *curves,
-        &mut *speeds,
-        &mut *powers,
-        &mut *districts,
     );
-    shown(
-        b"recalc_speeds",
-        r,
-        p,
-        &*offsets,
-        &*numbers,
-        &*grades,
-        &*curves,
-        &*speeds,
-        &*powers,
-        &*districts,
-    )
+    after
 }
 
-// `finish`.
-fn finish(
-    p: PathTpc,
-    offsets: &mut Offsets,
-    numbers: &mut Numbers,
-    grades: &mut Grades,
-    curves: &mut Curves,
-    speeds: &mut Speeds,
-    powers: &mut Powers,
-    districts: &mut Districts,
-) -> PathTpc {
-    let r = path_trim::finish::finish(
-        p,
-        &mut *offsets,
-        &mut *numbers,
-        &mut *grades,
-        &mut *curves,
-        &mut *speeds,
-        &mut *powers,
-        &mut *districts,
-    );
-    shown(
-        b"finish",
-        r,
-        p,
-        &*offsets,
-        &*numbers,
-        &*grades,
-        &*curves,
-        &*speeds,
-        &*powers,
-        &*districts,
-    )
+// The line of `clear`'s answer, with the dropped link point; the path's record afterwards.
+fn cleared(r: PathAnswer, dropped: LinkPoint, before: PathTpc) -> PathTpc {
+    let answer = r.answer;
+    if done(b"clear", answer) {
+        let p = r.path;
+        flag(p.is_finished);
+        real(dropped.offset.0);
+        whole(dropped.grade_count as u64);
+        whole(dropped.curve_count as u64);
+        whole(dropped.cat_power_count as u64);
+        whole(dropped.link_idx as u64);
+        end();
+        return p;
+    }
+    before
 }
 
-// `reindex`.
-fn reindex(
-    w: &[u64],
-    at: usize,
-    p: PathTpc,
-    offsets: &mut Offsets,
-    numbers: &mut Numbers,
-    grades: &mut Grades,
-    curves: &mut Curves,
-    speeds: &mut Speeds,
-    powers: &mut Powers,
-    districts: &mut Districts,
-) -> PathTpc {
-    let r = renumbered(
-        w,
-        at,
-        p,
-        &mut *offsets,
-        &mut *numbers,
-        &mut *grades,
-        &mut *curves,
-        &mut *speeds,
-        &mut *powers,
-        &mut *districts,
-    );
-    shown(
-        b"reindex",
-        r,
-        p,
-        &*offsets,
-        &*numbers,
-        &*grades,
-        &*curves,
-        &*speeds,
-        &*powers,
-        &*districts,
-    )
-}
-
-// `clear`, with the dropped link point beside its answer.
+// `clear`.
 fn clear(
-    w: &[u64],
-    at: usize,
+    x: Length,
     p: PathTpc,
     offsets: &mut Offsets,
     numbers: &mut Numbers,
@@ -475,7 +388,7 @@ fn clear(
 ) -> PathTpc {
     let r = path_trim::clear::clear(
         p,
-        Length(float_at(w, at, 0)),
+        x,
         &mut *offsets,
         &mut *numbers,
         &mut *grades,
@@ -485,19 +398,8 @@ fn clear(
         &mut *districts,
     );
     let outcome = r.outcome;
-    let answer = outcome.answer;
-    let mut after = p;
-    if done(b"clear", answer) {
-        let dropped = r.dropped;
-        after = outcome.path;
-        flag(after.is_finished);
-        real(dropped.offset.0);
-        whole(dropped.grade_count as u64);
-        whole(dropped.curve_count as u64);
-        whole(dropped.cat_power_count as u64);
-        whole(dropped.link_idx as u64);
-        end();
-    }
+    let dropped = r.dropped;
+    let after = cleared(outcome, dropped, p);
     lists(
         after,
         &*offsets,
@@ -653,10 +555,9 @@ pub fn path_call(
     powers: &mut Powers,
     districts: &mut Districts,
 ) -> PathTpc {
-    match code {
-        0x3 => new(
-            w,
-            s,
+    if code == 0x5 {
+        return clear(
+            Length(float_at(w, at, 0)),
             p,
             &mut *offsets,
             &mut *numbers,
@@ -665,83 +566,37 @@ pub fn path_call(
             &mut *speeds,
             &mut *powers,
             &mut *districts,
-        ),
-        0x4 => extend(
-            w,
-            at,
-            s,
-            p,
-            &mut *offsets,
-            &mut *numbers,
-            &mut *grades,
-            &mut *curves,
-            &mut *speeds,
-            &mut *powers,
-            &mut *districts,
-        ),
-        0x5 => clear(
-            w,
-            at,
-            p,
-            &mut *offsets,
-            &mut *numbers,
-            &mut *grades,
-            &mut *curves,
-            &mut *speeds,
-            &mut *powers,
-            &mut *districts,
-        ),
-        0x6 => finish(
-            p,
-            &mut *offsets,
-            &mut *numbers,
-            &mut *grades,
-            &mut *curves,
-            &mut *speeds,
-            &mut *powers,
-            &mut *districts,
-        ),
-        0x7 => recalc_speeds(
-            w,
-            at,
-            s,
-            p,
-            &mut *offsets,
-            &mut *numbers,
-            &mut *grades,
-            &mut *curves,
-            &mut *speeds,
-            &mut *powers,
-            &mut *districts,
-        ),
-        0x8 => reindex(
-            w,
-            at,
-            p,
-            &mut *offsets,
-            &mut *numbers,
-            &mut *grades,
-            &mut *curves,
-            &mut *speeds,
-            &mut *powers,
-            &mut *districts,
-        ),
-        _ => {
-            path_reads(
-                w,
-                code,
-                at,
-                s,
-                p,
-                &*offsets,
-                &*numbers,
-                &*grades,
-                &*curves,
-                &*speeds,
-                &*powers,
-                &*districts,
-            );
-            p
-        }
+        );
     }
+    if (0x3 <= code) & (code <= 0x8) {
+        return changed(
+            w,
+            code,
+            at,
+            s,
+            p,
+            &mut *offsets,
+            &mut *numbers,
+            &mut *grades,
+            &mut *curves,
+            &mut *speeds,
+            &mut *powers,
+            &mut *districts,
+        );
+    }
+    path_reads(
+        w,
+        code,
+        at,
+        s,
+        p,
+        &*offsets,
+        &*numbers,
+        &*grades,
+        &*curves,
+        &*speeds,
+        &*powers,
+        &*districts,
+    );
+    p
 }

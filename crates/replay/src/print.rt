@@ -44,15 +44,20 @@ pub fn end() {
     say(b"\n");
 }
 
-// The beginning of an answer's line, all of it where the call is refused; whether it is done.
-pub fn done(name: &[u8], a: Answer) -> bool {
-    say(name);
+// What stands behind a call's name: the beginning of an answer's line, all of it where the call is refused; whether it is done.
+pub fn is_done(a: Answer) -> bool {
     if a.number == 0 {
         say(b" done");
         return true;
     }
     say(b" refused\n");
     false
+}
+
+// The same with the call's name.
+pub fn done(name: &[u8], a: Answer) -> bool {
+    say(name);
+    is_done(a)
 }
 
 // A line with the first n entries of a column.
@@ -140,6 +145,54 @@ fn four_times(n: usize, col: &[u32]) -> usize {
     4 * n
 }
 
+// The link points, grades and curves of a path.
+fn show_records(
+    p: PathTpc,
+    offsets: &Offsets,
+    numbers: &Numbers,
+    grades: &Grades,
+    curves: &Curves,
+) {
+    points(offsets, numbers, p.link_count);
+    reals(b"grades", grades, thrice(p.grade_count, grades));
+    reals(b"curves", curves, thrice(p.curve_count, curves));
+}
+
+// Its speed points and power limits.
+fn show_limits(p: PathTpc, speeds: &Speeds, powers: &Powers, districts: &Districts) {
+    reals(b"speeds", speeds, twice(p.speed_count, speeds));
+    limits(powers, districts, p.power_count);
+}
+
+// Whether every entry past the link points, grades and curves is zero.
+fn clean_records(
+    p: PathTpc,
+    offsets: &Offsets,
+    numbers: &Numbers,
+    grades: &Grades,
+    curves: &Curves,
+) -> bool {
+    let of_points = zero_floats(offsets, p.link_count)
+        & zero_numbers(numbers, four_times(p.link_count, numbers));
+    of_points
+        & (zero_floats(grades, thrice(p.grade_count, grades))
+            & zero_floats(curves, thrice(p.curve_count, curves)))
+}
+
+// The same of the speed points and power limits.
+fn clean_limits(p: PathTpc, speeds: &Speeds, powers: &Powers, districts: &Districts) -> bool {
+    zero_floats(speeds, twice(p.speed_count, speeds))
+        & (zero_floats(powers, thrice(p.power_count, powers))
+            & zero_numbers(districts, p.power_count))
+}
+
+// The end of the lists: 0 where every entry past them is zero, else 1.
+fn rest(clean: bool) {
+    say(b"rest");
+    flag(!clean);
+    end();
+}
+
 // The five lists of a path, and whether every entry past them is zero.
 pub fn lists(
     p: PathTpc,
@@ -151,19 +204,10 @@ pub fn lists(
     powers: &Powers,
     districts: &Districts,
 ) {
-    points(offsets, numbers, p.link_count);
-    reals(b"grades", grades, thrice(p.grade_count, grades));
-    reals(b"curves", curves, thrice(p.curve_count, curves));
-    reals(b"speeds", speeds, twice(p.speed_count, speeds));
-    limits(powers, districts, p.power_count);
-    say(b"rest");
-    let of_points = zero_floats(offsets, p.link_count)
-        & zero_numbers(numbers, four_times(p.link_count, numbers));
-    let of_records = zero_floats(grades, thrice(p.grade_count, grades))
-        & zero_floats(curves, thrice(p.curve_count, curves));
-    let of_limits = zero_floats(speeds, twice(p.speed_count, speeds))
-        & (zero_floats(powers, thrice(p.power_count, powers))
-            & zero_numbers(districts, p.power_count));
-    flag(!(of_points & (of_records & of_limits)));
-    end();
+    show_records(p, offsets, numbers, grades, curves);
+    show_limits(p, speeds, powers, districts);
+    rest(
+        clean_records(p, offsets, numbers, grades, curves)
+            & clean_limits(p, speeds, powers, districts),
+    );
 }
