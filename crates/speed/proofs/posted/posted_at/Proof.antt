@@ -1,10 +1,11 @@
 -- `posted_at`: the last point at or before x is lo or comes after it, and comes before hi.
 use Prim.Native.Nat.{suc, _+_, _-_, _/_, _≤_, _<_}
 use native.Mathlib.Omega.{arith}
-use mathlib.Core.Path.{_≡_, sym, _∙_}
+use mathlib.Core.Path.{_≡_, sym, ap, _∙_}
 use mathlib.Core.Bool.{true, false}
 use lib.ListN.{drop}
 use lib.Ieee as Ieee
+use lib.Ieee.{Float}
 use Rattle.ieee.specs.Number.{+0}
 use Rattle.ieee.proofs.Order.{of-true}
 use Rattle.speed.specs.Points.{offsetAt}
@@ -42,7 +43,9 @@ loop-less : tie.Need-loop-less Inv-loop μ-loop
 loop-less c = omega arith
 
 loop-again : tie.Need-loop-again Inv-loop μ-loop
-loop-again c = (omega arith, omega arith, cc, c .before .before .before .before .before .loop .inv .3)
+loop-again c =
+    let a = c .before .before .before .before .before .before .before .args in
+    (omega arith, omega arith, ap (λ (o : Float). Ieee.le o (a .x .0)) (sym (c .before .before .before .offset-at .ensures)) ∙ c .if1 .taken, c .before .before .before .before .before .loop .inv .3)
 
 loop-less-2 : tie.Need-loop-less-2 Inv-loop μ-loop
 loop-less-2 c = omega arith
@@ -51,7 +54,7 @@ loop-again-2 : tie.Need-loop-again-2 Inv-loop μ-loop
 loop-again-2 c =
     let a = c .before .before .before .before .before .before .before .args in
     let l = c .before .before .before .before .before .loop in
-    (omega arith, omega arith, l .inv .2, reaches-at (a .x .0) (points (a .n) (a .col .now)) (l .lo + (l .hi - l .lo) / 2) (omega (arith, length-points (a .n) (a .col .now))) ∙ (cc))
+    (omega arith, omega arith, l .inv .2, reaches-at (a .x .0) (points (a .n) (a .col .now)) (l .lo + (l .hi - l .lo) / 2) (omega (arith, length-points (a .n) (a .col .now))) ∙ ap (λ (o : Float). Ieee.le o (a .x .0)) (sym (c .before .before .before .offset-at .ensures)) ∙ c .if1 .left)
 
 speed-at-requires : tie.Need-speed-at-requires Inv-loop μ-loop
 speed-at-requires c κs = omega arith
