@@ -1,10 +1,9 @@
--- `floats`: one entry a turn.
-use Prim.Native.Nat.{_-_}
-use native.Mathlib.Omega.{arith}
+-- `reals`: one entry a turn.
 use borrow.Author.Needs.{needs}
+use Prim.Native.Nat.{_-_}
 use lib.ListN.{length}
-use Rattle.refusals.proofs.trim_rows.floats.Statement.{statement}
-use Rattle.refusals.proofs.trim_rows.floats.Tie as tie
+use Rattle.refusals.proofs.answers.reals.Statement.{statement}
+use Rattle.refusals.proofs.answers.reals.Tie as tie
 
 abbrev Inv-loop : tie.InvT-loop
 Inv-loop name col i₀ t4 i = Unit {0}
@@ -24,20 +23,17 @@ slice-aggregate-say c = search needs
 say-requires-2 : tie.Need-say-requires-2 Inv-loop μ-loop
 say-requires-2 c κs = search needs
 
-mul-number : tie.Need-mul-number Inv-loop μ-loop
-mul-number c = search needs
-
-shared-slice-read-number : tie.Need-shared-slice-read-number Inv-loop μ-loop
-shared-slice-read-number c = search needs
+get-requires : tie.Need-get-requires Inv-loop μ-loop
+get-requires c κs = search needs
 
 number-requires : tie.Need-number-requires Inv-loop μ-loop
 number-requires c κs = search needs
 
 add-i : tie.Need-add-i Inv-loop μ-loop
-add-i c = omega arith
+add-i c = search needs
 
 loop-less : tie.Need-loop-less Inv-loop μ-loop
-loop-less c = omega arith
+loop-less c = search needs
 
 loop-again : tie.Need-loop-again Inv-loop μ-loop
 loop-again c = tt
@@ -45,8 +41,8 @@ loop-again c = tt
 returns : tie.Need-returns Inv-loop μ-loop
 returns c = search needs
 
-pub floats-spec : {M : Type 1} → statement M
-floats-spec =
+pub reals-spec : {M : Type 1} → statement M
+reals-spec =
     tie.close
     (tie.spec
     Inv-loop
@@ -55,8 +51,7 @@ floats-spec =
     loop-holds
     slice-aggregate-say
     say-requires-2
-    mul-number
-    shared-slice-read-number
+    get-requires
     number-requires
     add-i
     loop-less

@@ -1,10 +1,9 @@
--- `words`: one entry a turn.
-use Prim.Native.Nat.{_-_}
-use native.Mathlib.Omega.{arith}
+-- `wholes`: one entry a turn.
 use borrow.Author.Needs.{needs}
+use Prim.Native.Nat.{_-_}
 use lib.ListN.{length}
-use Rattle.refusals.proofs.trim_rows.words.Statement.{statement}
-use Rattle.refusals.proofs.trim_rows.words.Tie as tie
+use Rattle.refusals.proofs.answers.wholes.Statement.{statement}
+use Rattle.refusals.proofs.answers.wholes.Tie as tie
 
 abbrev Inv-loop : tie.InvT-loop
 Inv-loop name col i₀ i = Unit {0}
@@ -18,23 +17,20 @@ say-requires c κs = search needs
 loop-holds : tie.Need-loop-holds Inv-loop μ-loop
 loop-holds c = tt
 
-mul-count : tie.Need-mul-count Inv-loop μ-loop
-mul-count c = search needs
-
-shared-slice-read-count : tie.Need-shared-slice-read-count Inv-loop μ-loop
-shared-slice-read-count c = search needs
+get-requires : tie.Need-get-requires Inv-loop μ-loop
+get-requires c κs = search needs
 
 cast-count : tie.Need-cast-count Inv-loop μ-loop
-cast-count c = omega (arith, c .shared-slice-known3 .given (c .before .before .loop .i))
+cast-count c = search needs
 
 count-requires : tie.Need-count-requires Inv-loop μ-loop
 count-requires c κs = search needs
 
 add-i : tie.Need-add-i Inv-loop μ-loop
-add-i c = omega arith
+add-i c = search needs
 
 loop-less : tie.Need-loop-less Inv-loop μ-loop
-loop-less c = omega arith
+loop-less c = search needs
 
 loop-again : tie.Need-loop-again Inv-loop μ-loop
 loop-again c = tt
@@ -42,16 +38,15 @@ loop-again c = tt
 returns : tie.Need-returns Inv-loop μ-loop
 returns c = search needs
 
-pub words-spec : {M : Type 1} → statement M
-words-spec =
+pub wholes-spec : {M : Type 1} → statement M
+wholes-spec =
     tie.close
     (tie.spec
     Inv-loop
     μ-loop
     say-requires
     loop-holds
-    mul-count
-    shared-slice-read-count
+    get-requires
     cast-count
     count-requires
     add-i
