@@ -86,8 +86,8 @@
  *   limits     start, end, speed             3 entries, 0 <= start <= end, from the link's beginning
  *   codes      kind, comparison              2 entries of a condition: what the train is asked for, and how. At most 64 a set
  *   values     limit value                   1 entry of the same condition
- *   pool       power limit: start, end, power  3 entries, 0 <= start <= end
- *   regions    power limit: district number    1 entry
+ *   link_powers     power limit: start, end, power  3 entries, 0 <= start <= end
+ *   link_districts  power limit: district number    1 entry
  *
  * A set applies if each of its conditions holds. Its limits below the top speed are laid from start to end; if the set is no
  * head-end set, the train's length is added to the end.
@@ -344,8 +344,8 @@ mochaspit_path_answer mochaspit_extend(
     const double *limits, size_t limits_len,
     const uint32_t *codes, size_t codes_len,
     const double *values, size_t values_len,
-    const double *pool, size_t pool_len,
-    const uint32_t *regions, size_t regions_len);
+    const double *link_powers, size_t link_powers_len,
+    const uint32_t *link_districts, size_t link_districts_len);
 
 /*
  * Drops the links behind an offset, as a rule that of the train's back. The kept beginning is the first link point whose next one is
@@ -423,8 +423,8 @@ mochaspit_path_answer mochaspit_recalc_speeds(
     const double *limits, size_t limits_len,
     const uint32_t *codes, size_t codes_len,
     const double *values, size_t values_len,
-    const double *pool, size_t pool_len,
-    const uint32_t *regions, size_t regions_len);
+    const double *link_powers, size_t link_powers_len,
+    const uint32_t *link_districts, size_t link_districts_len);
 
 /*
  * Other numbers for the links: link n gets renumbered[n], the end point the last link's.

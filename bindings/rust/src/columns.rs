@@ -73,7 +73,7 @@ macro_rules! call {
                 $t.sets.as_ptr(), $t.sets.len(), $t.elevs.as_ptr(), $t.elevs.len(),
                 $t.headings.as_ptr(), $t.headings.len(), $t.limits.as_ptr(), $t.limits.len(),
                 $t.codes.as_ptr(), $t.codes.len(), $t.values.as_ptr(), $t.values.len(),
-                $t.pool.as_ptr(), $t.pool.len(), $t.regions.as_ptr(), $t.regions.len())?)
+                $t.link_powers.as_ptr(), $t.link_powers.len(), $t.link_districts.as_ptr(), $t.link_districts.len())?)
         }
     }};
     ($name:ident($($arg:expr),*) reads $c:expr) => {{

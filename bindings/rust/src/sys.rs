@@ -194,7 +194,7 @@ macro_rules! path_call {
                 sets: *const u32, sets_len: usize, elevs: *const f64, elevs_len: usize,
                 headings: *const f64, headings_len: usize, limits: *const f64, limits_len: usize,
                 codes: *const u32, codes_len: usize, values: *const f64, values_len: usize,
-                pool: *const f64, pool_len: usize, regions: *const u32, regions_len: usize) -> $r;
+                link_powers: *const f64, link_powers_len: usize, link_districts: *const u32, link_districts_len: usize) -> $r;
         }
     };
 }

@@ -13,8 +13,8 @@ pub struct LinkTable {
     pub(crate) limits: Vec<f64>,
     pub(crate) codes: Vec<u32>,
     pub(crate) values: Vec<f64>,
-    pub(crate) pool: Vec<f64>,
-    pub(crate) regions: Vec<u32>,
+    pub(crate) link_powers: Vec<f64>,
+    pub(crate) link_districts: Vec<u32>,
 }
 
 /// Numbers of a link in `links`, and of its eight set places in `sets`.
@@ -39,8 +39,8 @@ impl LinkTable {
             limits: Vec::new(),
             codes: Vec::new(),
             values: Vec::new(),
-            pool: Vec::new(),
-            regions: Vec::new(),
+            link_powers: Vec::new(),
+            link_districts: Vec::new(),
         }
     }
 
@@ -74,10 +74,10 @@ impl LinkTable {
 
     /// First and count of these power limits.
     fn add_powers(&mut self, powers: &[PowerLimit]) -> [u32; 2] {
-        let range = [counted(self.regions.len()), counted(powers.len())];
+        let range = [counted(self.link_districts.len()), counted(powers.len())];
         for p in powers {
-            self.pool.extend([p.start, p.end, p.power]);
-            self.regions.push(p.district);
+            self.link_powers.extend([p.start, p.end, p.power]);
+            self.link_districts.push(p.district);
         }
         range
     }

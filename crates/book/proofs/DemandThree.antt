@@ -12,7 +12,7 @@ use Rattle.path.specs.declared.link_point.LinkPoint.{LinkPoint}
 use Rattle.path.specs.Records.{pathOf}
 use Rattle.path.specs.Sound.{spare, countOf}
 use Rattle.path.proofs.Counts.{total-fewer}
-use Rattle.path.proofs.Standing.{spare-some}
+use Rattle.path.proofs.WrittenSound.{spare-some}
 use Rattle.book.specs.Book.{bookOf}
 use Rattle.book.specs.Claims.{postedAt, PostedRight}
 use Rattle.book.specs.Demand.{BeginAtEnds, ranFromNew, Demand3, StaysSound}

@@ -16,7 +16,7 @@ use Rattle.book.specs.Book.{Book, lastEnd, enterLink, enterLinks}
 use Rattle.book.proofs.Matching.{Matched}
 use Rattle.book.proofs.Ends.{some-more}
 use Rattle.book.proofs.LinkEnds.{same-count, last-end}
-use Rattle.book.proofs.Laying.{joined-ends}
+use Rattle.book.proofs.JoinedLink.{joined-ends}
 
 -- the starting net value is none of either
 pub started-matched : (t : LinkTable) (path : Path) (b : Book) (ns : List ℕ) → Matched path b → Matched (started t path ns) b

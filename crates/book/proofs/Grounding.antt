@@ -19,17 +19,17 @@ use Rattle.path.specs.declared.link_point.LinkPoint.{LinkPoint}
 use Rattle.path.specs.Records.{Path, offsetOf, gradeCount, curveCount, powerCount, numberOf, noLinkPoint, lastCoeff}
 use Rattle.path.specs.Sound.{total, totals, spare, countOf, endCountsZero}
 use Rattle.path.proofs.Counts.{total-fewer, count-of-totals}
-use Rattle.path_trim.specs.New.{newPath}
-use Rattle.path_trim.specs.Finish.{closing, closingAfter, finishedPath}
-use Rattle.path_trim.specs.Clear.{countBefore, dropCount, withoutLinks, clearedPath}
-use Rattle.path_links.specs.Reindex.{newNumber, withNumber, renumberedFrom, renumbered, reindexedPath}
+use Rattle.path_ends.specs.New.{newPath}
+use Rattle.path_ends.specs.Finish.{closing, closingAfter, finishedPath}
+use Rattle.path_clear.specs.Clear.{countBefore, dropCount, withoutLinks, clearedPath}
+use Rattle.path_reindex.specs.Reindex.{newNumber, withNumber, renumberedFrom, renumbered, reindexedPath}
 use Rattle.path_join.specs.Listed.{risesOf}
 use Rattle.path_join.specs.Joined.{joinPoint, joinRecords, join, joinAll, startNet, started}
 use Rattle.book.specs.Book.{Book, newBook, lastEnd, enterLink, enterLinks, dropEndsFrom, dropEnds, dropBehind}
 use Rattle.book.proofs.Good.{GoodLinks}
 use Rattle.book.specs.Demand.{TableF64}
 use Rattle.book.proofs.Matching.{Matched, Begun, Grounded}
-use Rattle.book.proofs.Laying.{stands, joined-ends, join-begun}
+use Rattle.book.proofs.JoinedLink.{stands, joined-ends, join-begun}
 use Rattle.path.proofs.Lasts.{total-append}
 
 -- the records that the first links count, and those of the next ones

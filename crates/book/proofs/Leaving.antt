@@ -15,16 +15,16 @@ use Rattle.speed_laws.proofs.Clear.{clear-same}
 use Rattle.link.specs.declared.train_params.TrainParams.{TrainParams}
 use Rattle.path.specs.declared.link_point.LinkPoint.{LinkPoint}
 use Rattle.path.specs.Records.{Path, offsetOf, linkPointAt}
-use Rattle.path_trim.specs.New.{newPath}
-use Rattle.path_trim.specs.Finish.{finishedPath}
-use Rattle.path_trim.specs.Clear.{countBefore, dropCount, withoutLinks, clearedPath}
-use Rattle.path_links.specs.Reindex.{reindexedPath}
+use Rattle.path_ends.specs.New.{newPath}
+use Rattle.path_ends.specs.Finish.{finishedPath}
+use Rattle.path_clear.specs.Clear.{countBefore, dropCount, withoutLinks, clearedPath}
+use Rattle.path_reindex.specs.Reindex.{reindexedPath}
 use Rattle.book.specs.Book.{Book, newBook, firstEnd, dropEndsFrom, dropEnds, dropBehind}
 use Rattle.book.specs.Claims.{Claims}
 use Rattle.book.proofs.Matching.{Matched}
 use Rattle.book.proofs.Ends.{first-offset}
 use Rattle.book.proofs.LinkEnds.{end-offset, same-count}
-use Rattle.path_links.proofs.Renumbered.{same-offsets}
+use Rattle.path_reindex.proofs.Renumbered.{same-offsets}
 
 -- ---- the links that `clear` drops are the ends that the book drops
 

@@ -12,9 +12,9 @@ pub mod Matching
 pub mod LinkEnds
 pub mod Entering
 pub mod Leaving
-pub mod Settled
-pub mod Ending
-pub mod Laying
+pub mod DoneCalls
+pub mod LinkRecordsEnd
+pub mod JoinedLink
 pub mod Grounding
 pub mod Staying
 pub mod StayTrimmed
@@ -23,6 +23,6 @@ pub mod LaidStretches
 pub mod StayJoined
 pub mod Running
 pub mod DemandThree
-pub mod Held
+pub mod TablesF64
 pub mod Tidy
 pub mod TrimsRun

@@ -14,10 +14,10 @@ use Rattle.path.specs.Answers.{isDone, ask, Outcome, outcome}
 use Rattle.path.specs.Sound.{pathFinite, trainFinite, withinBounds, sound, pathAnswer, isOpen}
 use Rattle.path.proofs.InTurn.{turn-done, first-done, outcome-refused, outcome-done}
 use Rattle.path.proofs.ReadBack.{read-back}
-use Rattle.path_trim.specs.New.{newPath, start, newAnswer, noPath, newOf}
-use Rattle.path_trim.specs.Finish.{finishedPath, finishAnswer, finishOf}
-use Rattle.path_trim.specs.Clear.{dropCount, clearedPath, clearAnswer, clearOf}
-use Rattle.path_links.specs.Reindex.{reindexedPath, reindexAnswer, reindexOf}
+use Rattle.path_ends.specs.New.{newPath, start, newAnswer, noPath, newOf}
+use Rattle.path_ends.specs.Finish.{finishedPath, finishAnswer, finishOf}
+use Rattle.path_clear.specs.Clear.{dropCount, clearedPath, clearAnswer, clearOf}
+use Rattle.path_reindex.specs.Reindex.{reindexedPath, reindexAnswer, reindexOf}
 use Rattle.path_join.specs.Joined.{joinAll, started}
 use Rattle.path_extend.specs.Extend.{extendAnswer, extendOf}
 use Rattle.path_extend.proofs.Asked.{settled}
@@ -30,9 +30,9 @@ use Rattle.book.proofs.Matching.{Matched, Grounded}
 use Rattle.book.proofs.BookAlone.{new-claims, call-claims}
 use Rattle.book.proofs.Entering.{joined-matched}
 use Rattle.book.proofs.Leaving.{clear-matched, reindex-matched, finish-matched, new-matched}
-use Rattle.book.proofs.Settled.{extend-good, clear-good}
+use Rattle.book.proofs.DoneCalls.{extend-good, clear-good}
 use Rattle.book.proofs.Grounding.{new-grounded, joined-grounded, clear-grounded, reindex-grounded, finish-grounded}
-use Rattle.path.proofs.Standing.{Stays, before}
+use Rattle.path.proofs.WrittenSound.{Stays, before}
 use Rattle.book.proofs.StayTrimmed.{stays-new, stays-finish, stays-clear}
 use Rattle.book.proofs.StayRenumbered.{stays-reindex}
 use Rattle.book.proofs.StayJoined.{stays-extend}

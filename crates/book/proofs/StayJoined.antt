@@ -41,18 +41,19 @@ use Rattle.path_stretches.specs.Stretches.{stretches, recordCount, isFinite, la
 use Rattle.path_stretches.specs.Powers.{placedPower, powerFinite}
 use Rattle.path_join.specs.Listed.{risesOf, lengthAt, elevsAt, samplesAt, powersAt, gradesIn, curvesIn, powersIn, recordsIn, sumOf}
 use Rattle.path_join.specs.Joined.{joinPoint, joinRecords, joinPowers, join, joinAll, firstValue, startingNet, withNet, startNet, started}
-use Rattle.path_extend.specs.declared.front.Front.{Front}
-use Rattle.path_extend.specs.Sums.{frontOf, gradesAt, curvesAt, endAt, frontAfter, sumsFinite, sumsFrom}
-use Rattle.path_extend.specs.Extend.{recordsFit, followed, sumsAnswer, extendAnswer}
+use Rattle.path_join.specs.declared.path_end.PathEnd.{PathEnd}
+use Rattle.path_join.specs.Sums.{pathEndOf, gradesAt, curvesAt, endAt, pathEndAfter, sumsFinite, sumsFrom}
+use Rattle.path_extend.specs.Extend.{followed, sumsAnswer, extendAnswer}
+use Rattle.path_join.specs.Fit.{recordsFit}
 use Rattle.book.specs.Book.{Book}
 use Rattle.book.specs.Claims.{Claims}
 use Rattle.book.proofs.Matching.{Matched, Grounded}
 use Rattle.path.proofs.Written.{valuesFinite, recordsFinite, powerNumbers}
 use Rattle.path.proofs.Lasts.{last-more, every-append, every-take, every-set, every-last, total-append, real-many, wholeFinite, open-finite}
 use Rattle.book.proofs.LaidStretches.{stretches-lay, finite-laid}
-use Rattle.path.proofs.Standing.{Own, Stays, NoMore, fewer-within, Before, before}
+use Rattle.path.proofs.WrittenSound.{Own, Stays, NoMore, fewer-within, Before, before}
 use Rattle.book.proofs.Staying.{stays}
-use Rattle.path_extend.proofs.Fronts.{front-join}
+use Rattle.path_extend.proofs.PathEnds.{path-end-join}
 use Rattle.path_stretches.proofs.Ended.{length-laid, length-stretches}
 
 -- ---- link points
@@ -143,17 +144,17 @@ placed-finite base (l ∷ ls) f g =
 -- ---- one link
 
 -- what questions 4, 6 and 8 settle of a link that is joined where the path stands as `at` says, for a train of this length
-pub record JoinedWell (train : TrainParams) (long : Float) (t : LinkTable) (at : Front) (n : ℕ) : Type 0 where
+pub record JoinedWell (train : TrainParams) (long : Float) (t : LinkTable) (at : PathEnd) (n : ℕ) : Type 0 where
   pub real-number : not (eqb n 0) ≡ true
   pub well-formed : wellFormed t n ≡ true
   pub sums : sumsFinite train long t at n ≡ true
 
-record SumsGood (train : TrainParams) (t : LinkTable) (at : Front) (n : ℕ) : Type 0 where
+record SumsGood (train : TrainParams) (t : LinkTable) (at : PathEnd) (n : ℕ) : Type 0 where
   grades : every isFinite (gradesAt train t at n) ≡ true
   curves : every isFinite (curvesAt train t at n) ≡ true
   powers : every (powerFinite (at .grade .0)) (powersAt (t .links) (t .powers) (t .districts) n) ≡ true
 
-sums-good : (train : TrainParams) (long : Float) (t : LinkTable) (at : Front) (n : ℕ) → sumsFinite train long t at n ≡ true → SumsGood train t at n
+sums-good : (train : TrainParams) (long : Float) (t : LinkTable) (at : PathEnd) (n : ℕ) → sumsFinite train long t at n ≡ true → SumsGood train t at n
 unfolding sumsFinite
 sums-good train long t at n e =
     let grades? = every isFinite (gradesAt train t at n) in
@@ -185,13 +186,13 @@ module _ (train : TrainParams) (long : Float) (t : LinkTable) (path : Path) (n :
   abbrev base : Float
   base = standsAt (lastCoeff (path .grades))
 
-  pub own-join : path .finished ≡ false → 0 < length (path .links) → Own path → JoinedWell train long t (frontOf path) n → Own (join train t path n)
-  unfolding join joinPowers closedAtInfinity endCountsZero frontOf linkAt
+  pub own-join : path .finished ≡ false → 0 < length (path .links) → Own path → JoinedWell train long t (pathEndOf path) n → Own (join train t path n)
+  unfolding join joinPowers closedAtInfinity endCountsZero pathEndOf linkAt
   own-join opened some own well =
       let links = t .links in
       let ps = path .links in
       let is-formed = formed t n (well .well-formed) in
-      let good = sums-good train long t (frontOf path) n (well .sums) in
+      let good = sums-good train long t (pathEndOf path) n (well .sums) in
       let placed = map (placedPower base) (powersAt links (t .powers) (t .districts) n) in
       let p = endPoint ps in
       let ended = and-both (eqb (curveCount p) 0) (eqb (powerCount p) 0) (and-both (eqb (gradeCount p) 0) _ (own .end-zero) .1) in
@@ -209,11 +210,11 @@ module _ (train : TrainParams) (long : Float) (t : LinkTable) (path : Path) (n :
 
 -- ---- the listed links
 
-abbrev pub AllJoinedWell : TrainParams → Float → LinkTable → Front → List ℕ → Type 0
+abbrev pub AllJoinedWell : TrainParams → Float → LinkTable → PathEnd → List ℕ → Type 0
 AllJoinedWell train long t at [] = Unit
-AllJoinedWell train long t at (n ∷ ns) = JoinedWell train long t at n × AllJoinedWell train long t (frontAfter train t at n) ns
+AllJoinedWell train long t at (n ∷ ns) = JoinedWell train long t at n × AllJoinedWell train long t (pathEndAfter train t at n) ns
 
-all-joined-well : (train : TrainParams) (long : Float) (t : LinkTable) (at : Front) (ns : List ℕ) → every (realIn (t .links) (t .lengths) (t .sets)) ns ≡ true → every (wellFormed t) ns ≡ true
+all-joined-well : (train : TrainParams) (long : Float) (t : LinkTable) (at : PathEnd) (ns : List ℕ) → every (realIn (t .links) (t .lengths) (t .sets)) ns ≡ true → every (wellFormed t) ns ≡ true
     → every (λ (b : Bool). b) (sumsFrom train long t at ns) ≡ true → AllJoinedWell train long t at ns
 unfolding every sumsFrom realIn
 all-joined-well train long t at [] four six eight = tt
@@ -222,17 +223,17 @@ all-joined-well train long t at (n ∷ ns) four six eight =
     let w = and-both (wellFormed t n) _ six in
     let s = and-both (sumsFinite train long t at n) _ eight in (
       record { real-number = and-both (not (eqb n 0)) (inTable (t .links) (t .lengths) (t .sets) n) (r .0) .0; well-formed = w .0; sums = s .0 },
-      all-joined-well train long t (frontAfter train t at n) ns (r .1) (w .1) (s .1),
+      all-joined-well train long t (pathEndAfter train t at n) ns (r .1) (w .1) (s .1),
     )
 
-own-all : (train : TrainParams) (long : Float) (t : LinkTable) (path : Path) (ns : List ℕ) → path .finished ≡ false → 0 < length (path .links) → Own path → AllJoinedWell train long t (frontOf path) ns
+own-all : (train : TrainParams) (long : Float) (t : LinkTable) (path : Path) (ns : List ℕ) → path .finished ≡ false → 0 < length (path .links) → Own path → AllJoinedWell train long t (pathEndOf path) ns
     → Own (joinAll train t path ns)
 unfolding joinAll
 own-all train long t path [] opened some own well = own
 own-all train long t path (n ∷ ns) opened some own well =
     let links = joinPoint (t .links) (t .lengths) (path .links) n in
     let more : 0 < length links = omega (arith, length-joined (t .links) (t .lengths) (path .links) n) in
-    own-all train long t (join train t path n) ns (unfold join in opened) (unfold join in more) (own-join train long t path n opened some own (well .0)) (rw (front-join train t path n) (well .1))
+    own-all train long t (join train t path n) ns (unfold join in opened) (unfold join in more) (own-join train long t path n opened some own (well .0)) (rw (path-end-join train t path n) (well .1))
 
 -- ---- the starting net value
 
@@ -274,7 +275,7 @@ own-started t path ns opened six own =
     }
 
 own-extended : (train : TrainParams) (long : Float) (t : LinkTable) (path : Path) (ns : List ℕ) → path .finished ≡ false → 0 < length (path .links) → every (wellFormed t) ns ≡ true → Own path
-    → AllJoinedWell train long t (frontOf (started t path ns)) ns → Own (joinAll train t (started t path ns) ns)
+    → AllJoinedWell train long t (pathEndOf (started t path ns)) ns → Own (joinAll train t (started t path ns) ns)
 unfolding started
 own-extended train long t path ns opened some six own well = own-all train long t (started t path ns) ns opened some (own-started t path ns opened six own) well
 
@@ -377,7 +378,7 @@ record Asked (train : TrainParams) (t : LinkTable) (ns : List ℕ) (p : PathTpc)
   was : Before (pathOf p c) c
   opened : p .«is_finished» ≡ false
   well : every (wellFormed t) ns ≡ true
-  joined : AllJoinedWell train (lengthOf train) t (frontOf (started t (pathOf p c) ns)) ns
+  joined : AllJoinedWell train (lengthOf train) t (pathEndOf (started t (pathOf p c) ns)) ns
   fit : recordsFit train t ns p c ≡ true
 
 asked : (train : TrainParams) (t : LinkTable) (ns : List ℕ) (p : PathTpc) (c : Columns) → extendAnswer train t ns p c .number ≡ 0 → Asked train t ns p c
@@ -385,7 +386,7 @@ unfolding extendAnswer sumsAnswer
 asked train t ns p c e =
     let fifth = followed (t .links) (pathOf p c .links) ns in
     let type = train .«train_type» in
-    let at = frontOf (started t (pathOf p c) ns) in
+    let at = pathEndOf (started t (pathOf p c) ns) in
     let links = linksAnswer t type fifth ns in
     let sums = sumsAnswer train (lengthOf train) t ns p c in
     let two = turn-done (pathAnswer (trainFinite train) p c) (ask 3 (isOpen p) ∷ links ∷ sums ∷ []) e in

@@ -15,14 +15,14 @@ use Rattle.path.specs.Records.{Columns, gradeCount, curveCount, powerCount, num
 use Rattle.path.specs.Answers.{askEach}
 use Rattle.path.specs.Sound.{pathAnswer, total, closedAtInfinity, endCountsZero, allNumbered, numbersReal}
 use Rattle.path.proofs.InTurn.{turn-done, judged-done, each-done}
-use Rattle.path_links.specs.Reindex.{newNumber, renumbers, withNumber, renumberedFrom, renumbered, reindexedPath, reindexAnswer}
+use Rattle.path_reindex.specs.Reindex.{newNumber, renumbers, withNumber, renumberedFrom, renumbered, reindexedPath, reindexAnswer}
 use Rattle.book.specs.Book.{Book}
 use Rattle.book.specs.Claims.{Claims}
 use Rattle.book.proofs.Matching.{Matched, Grounded}
 use Rattle.path.proofs.Lasts.{real-many}
-use Rattle.path.proofs.Standing.{Own, Stays, NoMore, fewer-within, before}
+use Rattle.path.proofs.WrittenSound.{Own, Stays, NoMore, fewer-within, before}
 use Rattle.book.proofs.Staying.{stays}
-use Rattle.path_links.proofs.Renumbered.{length-renumbered}
+use Rattle.path_reindex.proofs.Renumbered.{length-renumbered}
 
 -- ---- a count that the number does not change
 module _ (count : LinkPoint → ℕ) (same : (n : ℕ) (p : LinkPoint) → count (withNumber n p) ≡ count p) where

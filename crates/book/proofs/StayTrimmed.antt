@@ -25,16 +25,16 @@ use Rattle.path.specs.Sound.{pathAnswer, trainFinite, isOpen, withinBounds, tot
 use Rattle.path.proofs.InTurn.{turn-done, first-done, judged-done}
 use Rattle.path.proofs.Clauses.{sound-within}
 use Rattle.path.proofs.ReadBack.{counted}
-use Rattle.path_trim.specs.New.{newPath, start, newAnswer}
-use Rattle.path_trim.specs.Finish.{closingAfter, closing, finishedPath, closedRecord, finishAnswer}
-use Rattle.path_trim.specs.Clear.{dropCount, clearedPath, inRange, clearAnswer}
-use Rattle.path_trims.proofs.WithoutLinks.{two-left, own-clear}
+use Rattle.path_ends.specs.New.{newPath, start, newAnswer}
+use Rattle.path_ends.specs.Finish.{closingAfter, closing, finishedPath, closedRecord, finishAnswer}
+use Rattle.path_clear.specs.Clear.{dropCount, clearedPath, inRange, clearAnswer}
+use Rattle.path_clear.proofs.WithoutLinks.{two-left, own-clear}
 use Rattle.book.specs.Book.{Book}
 use Rattle.book.specs.Claims.{Claims}
 use Rattle.book.proofs.Matching.{Matched, Grounded}
 use Rattle.path.proofs.Written.{recordsFinite}
 use Rattle.path.proofs.Lasts.{last-more, every-last, wholeFinite, open-finite, close-finite}
-use Rattle.path.proofs.Standing.{Own, Stays, NoMore, fewer-within, before}
+use Rattle.path.proofs.WrittenSound.{Own, Stays, NoMore, fewer-within, before}
 use Rattle.book.proofs.Staying.{stays}
 
 -- ---- new

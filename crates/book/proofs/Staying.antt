@@ -28,8 +28,8 @@ use Rattle.path.specs.declared.link_point.LinkPoint.{LinkPoint}
 use Rattle.path.specs.Records.{Columns, offsetOf, gradeCount, curveCount, powerCount, linkPointAt, endPoint, Path, recordOf}
 use Rattle.path.specs.Sound.{oneOfEach, withinBounds, total, spare, endCountsZero, riseFrom, offsetsRise, linksSound, standsThere, countOf, firstAtOffset, soundPath, sound}
 use Rattle.path.proofs.Counts.{total-next}
-use Rattle.path.proofs.Standing.{Own, Stays, in-order-from, points-some, add-up, spare-some, one-each}
-use Rattle.path_trims.proofs.Rising.{points-finite}
+use Rattle.path.proofs.WrittenSound.{Own, Stays, in-order-from, points-some, add-up, spare-some, one-each}
+use Rattle.path_clear.proofs.Rising.{points-finite}
 use Rattle.book.specs.Book.{Book, firstEnd}
 use Rattle.book.specs.Claims.{Offset, Offsets, RisingFrom, Rising, Claims}
 use Rattle.book.proofs.Matching.{Matched, Begun, Grounded}

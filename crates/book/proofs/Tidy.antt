@@ -12,10 +12,10 @@ use Rattle.path.specs.Answers.{isDone, Outcome, outcome, changed}
 use Rattle.path.proofs.InTurn.{outcome-refused, outcome-changed}
 use Rattle.path.proofs.ReadBack.{read-back}
 use Rattle.path.proofs.Tidied.{written-again}
-use Rattle.path_trim.specs.New.{newPath, newAnswer, noPath, newOf}
-use Rattle.path_trim.specs.Finish.{finishedPath, finishAnswer, finishOf}
-use Rattle.path_trim.specs.Clear.{dropCount, clearedPath, clearAnswer, clearOf}
-use Rattle.path_links.specs.Reindex.{reindexedPath, reindexAnswer, reindexOf}
+use Rattle.path_ends.specs.New.{newPath, newAnswer, noPath, newOf}
+use Rattle.path_ends.specs.Finish.{finishedPath, finishAnswer, finishOf}
+use Rattle.path_clear.specs.Clear.{dropCount, clearedPath, clearAnswer, clearOf}
+use Rattle.path_reindex.specs.Reindex.{reindexedPath, reindexAnswer, reindexOf}
 use Rattle.path_join.specs.Joined.{joinAll, started}
 use Rattle.path_extend.specs.Extend.{extendAnswer, extendOf}
 use Rattle.book.specs.Book.{Call}

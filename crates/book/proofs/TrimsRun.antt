@@ -12,9 +12,9 @@ use Rattle.path.specs.declared.link_point.LinkPoint.{LinkPoint}
 use Rattle.path.specs.Records.{Columns, noLinkPoint, Path, pathOf}
 use Rattle.path.specs.Answers.{done, isDone, Outcome, left, changed}
 use Rattle.path.proofs.ReadBack.{counted}
-use Rattle.path_trim.specs.New.{newOf}
-use Rattle.path_trim.specs.Clear.{Cleared, clearOf}
-use Rattle.path_trims.specs.Trims.{trimsAnswer, both, trimsLeave, listAnswer, listLeaves, clearEach}
+use Rattle.path_ends.specs.New.{newOf}
+use Rattle.path_clear.specs.Clear.{Cleared, clearOf}
+use Rattle.path_clear.specs.Trims.{trimsAnswer, both, trimsLeave, listAnswer, listLeaves, clearEach}
 use Rattle.book.specs.Book.{Call, bookOf}
 use Rattle.book.specs.Book.Call.{clear}
 use Rattle.book.specs.Demand.{callOf, Ran, run, CallsF64, Kept, ranFromNew}

@@ -18,10 +18,10 @@ use Rattle.path.specs.declared.link_point.LinkPoint.{LinkPoint}
 use Rattle.path.specs.Records.{Columns, Path, offsetOf, pathOf}
 use Rattle.path.specs.Answers.{isDone, Outcome}
 use Rattle.path.specs.Sound.{pathFinite, sound, total, countOf}
-use Rattle.path_trim.specs.New.{newOf}
-use Rattle.path_trim.specs.Finish.{finishOf}
-use Rattle.path_trim.specs.Clear.{clearOf}
-use Rattle.path_links.specs.Reindex.{reindexOf}
+use Rattle.path_ends.specs.New.{newOf}
+use Rattle.path_ends.specs.Finish.{finishOf}
+use Rattle.path_clear.specs.Clear.{clearOf}
+use Rattle.path_reindex.specs.Reindex.{reindexOf}
 use Rattle.path_extend.specs.Extend.{extendOf}
 use Rattle.book.specs.Book.{Call, Told, Book, firstEnd, bookOf}
 use Rattle.book.specs.Book.Call.{extend, clear, reindex, finish}

@@ -7,8 +7,8 @@ use Rattle.link.specs.declared.train_params.TrainParams.{TrainParams}
 use Rattle.path.specs.declared.path_tpc.PathTpc.{PathTpc}
 use Rattle.path.specs.Records.{Columns, pathOf}
 use Rattle.path.specs.Answers.{isDone, Outcome}
-use Rattle.path_trim.specs.New.{newOf}
-use Rattle.path_trims.specs.Trims.{clearEach}
+use Rattle.path_ends.specs.New.{newOf}
+use Rattle.path_clear.specs.Trims.{clearEach}
 use Rattle.book.specs.Book.{Call, Told, bookOf}
 use Rattle.book.specs.Book.Call.{clear}
 use Rattle.book.specs.Demand.{Ran, run, CallsF64, Kept, ranFromNew}

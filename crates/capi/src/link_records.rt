@@ -1,11 +1,11 @@
 // Where the grades and curves of a link lie: the library's call under a C name, with the same equation.
 use path::path_tpc::PathTpc;
-use path_links::link_records::RangeAnswer;
-use path_links::link_records::link_range;
+use path_link_records::link_records::RangeAnswer;
+use path_link_records::link_records::link_range;
 ghost use mathlib.Core.Path.{_≡_};
 ghost use mathlib.Core.Bool.{true, false};
-ghost use Rattle.path.specs.Records.{columns};
-ghost use Rattle.path_links.specs.LinkRecords.{linkRangeOf};
+ghost use Rattle.path.specs.Records.{columnsBefore};
+ghost use Rattle.path_link_records.specs.LinkRecords.{linkRangeOf};
 
 // The range of link k's records in the column of grades.
 #[no_mangle]
@@ -20,7 +20,7 @@ pub extern "C" fn mochaspit_link_grades(
     powers: &[f64],
     districts: &[u32],
 ) -> RangeAnswer
-    ensures { λ r. ⌜ r ≡ linkRangeOf false k path (columns (now (offsets .entry)) (now (numbers .entry)) (now (grades .entry)) (now (curves .entry)) (now (speeds .entry)) (now (powers .entry)) (now (districts .entry))) ⌝ }
+    ensures { λ r. ⌜ r ≡ linkRangeOf false k path (columnsBefore offsets numbers grades curves speeds powers districts) ⌝ }
 {
     link_range(
         path,
@@ -49,7 +49,7 @@ pub extern "C" fn mochaspit_link_curves(
     powers: &[f64],
     districts: &[u32],
 ) -> RangeAnswer
-    ensures { λ r. ⌜ r ≡ linkRangeOf true k path (columns (now (offsets .entry)) (now (numbers .entry)) (now (grades .entry)) (now (curves .entry)) (now (speeds .entry)) (now (powers .entry)) (now (districts .entry))) ⌝ }
+    ensures { λ r. ⌜ r ≡ linkRangeOf true k path (columnsBefore offsets numbers grades curves speeds powers districts) ⌝ }
 {
     link_range(
         path,

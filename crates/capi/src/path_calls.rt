@@ -3,17 +3,17 @@ use crate::codes::Train;
 use crate::codes::train_of;
 use path::path_tpc::PathAnswer;
 use path::path_tpc::PathTpc;
-use path_trim::clear::ClearAnswer;
+use path_clear::clear::ClearAnswer;
 use si::Length;
 ghost use mathlib.Core.Path.{_≡_};
-ghost use Rattle.link.specs.Table.{tableOf};
-ghost use Rattle.path.specs.Records.{columns};
+ghost use Rattle.link.specs.Table.{tableBefore};
+ghost use Rattle.path.specs.Records.{columnsBefore, columnsAfter};
 ghost use Rattle.path.specs.Answers.{Outcome, left};
-ghost use Rattle.path_trim.specs.New.{newOf};
-ghost use Rattle.path_trim.specs.Finish.{finishOf};
-ghost use Rattle.path_trim.specs.Clear.{Cleared, clearOf};
-ghost use Rattle.path_trims.specs.Trims.{clearEach};
-ghost use Rattle.path_links.specs.Reindex.{reindexOf};
+ghost use Rattle.path_ends.specs.New.{newOf};
+ghost use Rattle.path_ends.specs.Finish.{finishOf};
+ghost use Rattle.path_clear.specs.Clear.{Cleared, clearOf};
+ghost use Rattle.path_clear.specs.Trims.{clearEach};
+ghost use Rattle.path_reindex.specs.Reindex.{reindexOf};
 ghost use Rattle.path_speeds.specs.Recalc.{recalcOf};
 ghost use Rattle.path_extend.specs.Extend.{extendOf};
 ghost use Rattle.capi.specs.Codes.{trainOf};
@@ -30,9 +30,11 @@ pub extern "C" fn mochaspit_new(
     powers: &mut [f64],
     districts: &mut [u32],
 ) -> PathAnswer
-    ensures { λ r. ⌜ _≡_ {A = Outcome} (left r (columns (now (offsets .exit)) (now (numbers .exit)) (now (grades .exit)) (now (curves .exit)) (now (speeds .exit)) (now (powers .exit)) (now (districts .exit)))) (newOf (trainOf train) (columns (now (offsets .entry)) (now (numbers .entry)) (now (grades .entry)) (now (curves .entry)) (now (speeds .entry)) (now (powers .entry)) (now (districts .entry)))) ⌝ }
+    ensures { λ r. ⌜ _≡_ {A = Outcome}
+        (left r (columnsAfter offsets numbers grades curves speeds powers districts))
+        (newOf (trainOf train) (columnsBefore offsets numbers grades curves speeds powers districts)) ⌝ }
 {
-    path_trim::new::new(
+    path_ends::new::new(
         train_of(train),
         &mut *offsets,
         &mut *numbers,
@@ -65,10 +67,14 @@ pub extern "C" fn mochaspit_extend(
     limits: &[f64],
     codes: &[u32],
     values: &[f64],
-    pool: &[f64],
-    regions: &[u32],
+    link_powers: &[f64],
+    link_districts: &[u32],
 ) -> PathAnswer
-    ensures { λ r. ⌜ _≡_ {A = Outcome} (left r (columns (now (offsets .exit)) (now (numbers .exit)) (now (grades .exit)) (now (curves .exit)) (now (speeds .exit)) (now (powers .exit)) (now (districts .exit)))) (extendOf (trainOf train) (tableOf (now (links .entry)) (now (lengths .entry)) (now (sets .entry)) (now (elevs .entry)) (now (headings .entry)) (now (limits .entry)) (now (codes .entry)) (now (values .entry)) (now (pool .entry)) (now (regions .entry))) (now (list .entry)) path (columns (now (offsets .entry)) (now (numbers .entry)) (now (grades .entry)) (now (curves .entry)) (now (speeds .entry)) (now (powers .entry)) (now (districts .entry)))) ⌝ }
+    ensures { λ r. ⌜ _≡_ {A = Outcome}
+        (left r (columnsAfter offsets numbers grades curves speeds powers districts))
+        (extendOf (trainOf train)
+        (tableBefore links lengths sets elevs headings limits codes values «link_powers» «link_districts») (now (list .entry)) path
+        (columnsBefore offsets numbers grades curves speeds powers districts)) ⌝ }
 {
     path_extend::extend::extend(
         path,
@@ -89,8 +95,8 @@ pub extern "C" fn mochaspit_extend(
         limits,
         codes,
         values,
-        pool,
-        regions,
+        link_powers,
+        link_districts,
     )
 }
 
@@ -107,9 +113,11 @@ pub extern "C" fn mochaspit_clear(
     powers: &mut [f64],
     districts: &mut [u32],
 ) -> ClearAnswer
-    ensures { λ r. ⌜ _≡_ {A = Cleared} (record { outcome = left (r .outcome) (columns (now (offsets .exit)) (now (numbers .exit)) (now (grades .exit)) (now (curves .exit)) (now (speeds .exit)) (now (powers .exit)) (now (districts .exit))); dropped = r .dropped }) (clearOf (offset .0) path (columns (now (offsets .entry)) (now (numbers .entry)) (now (grades .entry)) (now (curves .entry)) (now (speeds .entry)) (now (powers .entry)) (now (districts .entry)))) ⌝ }
+    ensures { λ r. ⌜ _≡_ {A = Cleared}
+        (record { outcome = left (r .outcome) (columnsAfter offsets numbers grades curves speeds powers districts); dropped = r .dropped })
+        (clearOf (offset .0) path (columnsBefore offsets numbers grades curves speeds powers districts)) ⌝ }
 {
-    path_trim::clear::clear(
+    path_clear::clear::clear(
         path,
         offset,
         &mut *offsets,
@@ -135,9 +143,11 @@ pub extern "C" fn mochaspit_clear_each(
     powers: &mut [f64],
     districts: &mut [u32],
 ) -> ClearAnswer
-    ensures { λ r. ⌜ _≡_ {A = Cleared} (record { outcome = left (r .outcome) (columns (now (offsets .exit)) (now (numbers .exit)) (now (grades .exit)) (now (curves .exit)) (now (speeds .exit)) (now (powers .exit)) (now (districts .exit))); dropped = r .dropped }) (clearEach (now (xs .entry)) path (columns (now (offsets .entry)) (now (numbers .entry)) (now (grades .entry)) (now (curves .entry)) (now (speeds .entry)) (now (powers .entry)) (now (districts .entry)))) ⌝ }
+    ensures { λ r. ⌜ _≡_ {A = Cleared}
+        (record { outcome = left (r .outcome) (columnsAfter offsets numbers grades curves speeds powers districts); dropped = r .dropped })
+        (clearEach (now (xs .entry)) path (columnsBefore offsets numbers grades curves speeds powers districts)) ⌝ }
 {
-    path_trims::clear_each::clear_each(
+    path_clear::clear_each::clear_each(
         path,
         xs,
         &mut *offsets,
@@ -162,9 +172,11 @@ pub extern "C" fn mochaspit_finish(
     powers: &mut [f64],
     districts: &mut [u32],
 ) -> PathAnswer
-    ensures { λ r. ⌜ _≡_ {A = Outcome} (left r (columns (now (offsets .exit)) (now (numbers .exit)) (now (grades .exit)) (now (curves .exit)) (now (speeds .exit)) (now (powers .exit)) (now (districts .exit)))) (finishOf path (columns (now (offsets .entry)) (now (numbers .entry)) (now (grades .entry)) (now (curves .entry)) (now (speeds .entry)) (now (powers .entry)) (now (districts .entry)))) ⌝ }
+    ensures { λ r. ⌜ _≡_ {A = Outcome}
+        (left r (columnsAfter offsets numbers grades curves speeds powers districts))
+        (finishOf path (columnsBefore offsets numbers grades curves speeds powers districts)) ⌝ }
 {
-    path_trim::finish::finish(
+    path_ends::finish::finish(
         path,
         &mut *offsets,
         &mut *numbers,
@@ -196,10 +208,14 @@ pub extern "C" fn mochaspit_recalc_speeds(
     limits: &[f64],
     codes: &[u32],
     values: &[f64],
-    pool: &[f64],
-    regions: &[u32],
+    link_powers: &[f64],
+    link_districts: &[u32],
 ) -> PathAnswer
-    ensures { λ r. ⌜ _≡_ {A = Outcome} (left r (columns (now (offsets .exit)) (now (numbers .exit)) (now (grades .exit)) (now (curves .exit)) (now (speeds .exit)) (now (powers .exit)) (now (districts .exit)))) (recalcOf (trainOf train) (tableOf (now (links .entry)) (now (lengths .entry)) (now (sets .entry)) (now (elevs .entry)) (now (headings .entry)) (now (limits .entry)) (now (codes .entry)) (now (values .entry)) (now (pool .entry)) (now (regions .entry))) path (columns (now (offsets .entry)) (now (numbers .entry)) (now (grades .entry)) (now (curves .entry)) (now (speeds .entry)) (now (powers .entry)) (now (districts .entry)))) ⌝ }
+    ensures { λ r. ⌜ _≡_ {A = Outcome}
+        (left r (columnsAfter offsets numbers grades curves speeds powers districts))
+        (recalcOf (trainOf train)
+        (tableBefore links lengths sets elevs headings limits codes values «link_powers» «link_districts») path
+        (columnsBefore offsets numbers grades curves speeds powers districts)) ⌝ }
 {
     path_speeds::recalc_speeds::recalc_speeds(
         path,
@@ -219,8 +235,8 @@ pub extern "C" fn mochaspit_recalc_speeds(
         limits,
         codes,
         values,
-        pool,
-        regions,
+        link_powers,
+        link_districts,
     )
 }
 
@@ -237,9 +253,11 @@ pub extern "C" fn mochaspit_reindex(
     powers: &mut [f64],
     districts: &mut [u32],
 ) -> PathAnswer
-    ensures { λ r. ⌜ _≡_ {A = Outcome} (left r (columns (now (offsets .exit)) (now (numbers .exit)) (now (grades .exit)) (now (curves .exit)) (now (speeds .exit)) (now (powers .exit)) (now (districts .exit)))) (reindexOf (now (new .entry)) path (columns (now (offsets .entry)) (now (numbers .entry)) (now (grades .entry)) (now (curves .entry)) (now (speeds .entry)) (now (powers .entry)) (now (districts .entry)))) ⌝ }
+    ensures { λ r. ⌜ _≡_ {A = Outcome}
+        (left r (columnsAfter offsets numbers grades curves speeds powers districts))
+        (reindexOf (now (new .entry)) path (columnsBefore offsets numbers grades curves speeds powers districts)) ⌝ }
 {
-    path_links::reindex::reindex(
+    path_reindex::reindex::reindex(
         path,
         new,
         &mut *offsets,

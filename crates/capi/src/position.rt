@@ -4,7 +4,7 @@ use train::set_link_and_offset::StateAnswer;
 use train::set_link_and_offset::with_link_and_offset;
 use train::train_state::TrainState;
 ghost use mathlib.Core.Path.{_≡_};
-ghost use Rattle.path.specs.Records.{columns};
+ghost use Rattle.path.specs.Records.{columnsBefore};
 ghost use Rattle.train.specs.Locate.{locateOf, placed};
 
 // `set_link_and_offset`: the record with its three link fields written.
@@ -20,7 +20,8 @@ pub extern "C" fn mochaspit_set_link_and_offset(
     powers: &[f64],
     districts: &[u32],
 ) -> StateAnswer
-    ensures { λ r. ⌜ (r .answer ≡ locateOf state path (columns (now (offsets .entry)) (now (numbers .entry)) (now (grades .entry)) (now (curves .entry)) (now (speeds .entry)) (now (powers .entry)) (now (districts .entry))) .answer) × (r .state ≡ placed state (locateOf state path (columns (now (offsets .entry)) (now (numbers .entry)) (now (grades .entry)) (now (curves .entry)) (now (speeds .entry)) (now (powers .entry)) (now (districts .entry))))) ⌝ }
+    ensures { λ r. ⌜ (r .answer ≡ locateOf state path (columnsBefore offsets numbers grades curves speeds powers districts) .answer) ×
+        (r .state ≡ placed state (locateOf state path (columnsBefore offsets numbers grades curves speeds powers districts))) ⌝ }
 {
     with_link_and_offset(
         state,

@@ -4,7 +4,7 @@ use path_posted::posted_speed::PostedAnswer;
 use path_posted::posted_speed::posted_speed;
 use si::Length;
 ghost use mathlib.Core.Path.{_≡_};
-ghost use Rattle.path.specs.Records.{columns};
+ghost use Rattle.path.specs.Records.{columnsBefore};
 ghost use Rattle.path_posted.specs.Posted.{postedOf};
 
 // `posted_speed`: the speed of the last speed point at or before the offset.
@@ -20,7 +20,7 @@ pub extern "C" fn mochaspit_posted_speed(
     powers: &[f64],
     districts: &[u32],
 ) -> PostedAnswer
-    ensures { λ r. ⌜ r ≡ postedOf (offset .0) path (columns (now (offsets .entry)) (now (numbers .entry)) (now (grades .entry)) (now (curves .entry)) (now (speeds .entry)) (now (powers .entry)) (now (districts .entry))) ⌝ }
+    ensures { λ r. ⌜ r ≡ postedOf (offset .0) path (columnsBefore offsets numbers grades curves speeds powers districts) ⌝ }
 {
     posted_speed(
         path,

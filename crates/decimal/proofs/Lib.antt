@@ -1,7 +1,7 @@
 -- Laws of the definitions.
 pub mod Bytes
 pub mod Texts
-pub mod Steps
+pub mod DigitSteps
 pub mod Quotient
 pub mod Patterns
 pub mod Answers

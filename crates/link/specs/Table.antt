@@ -5,6 +5,8 @@ use mathlib.Core.List.{List}
 use lib.Dec.{eqb, leb, ltb}
 use lib.ListN.{length, getD}
 use lib.Ieee.{Float}
+use denote.Ref.{RefT}
+use denote.Triple.Both.{Both}
 use Rattle.ieee.specs.Number.{+0}
 use Rattle.column.specs.Records.{recordAt, two, three}
 use Rattle.speed.specs.declared.speed_limit.SpeedLimit.{SpeedLimit}
@@ -57,6 +59,19 @@ tableOf links lengths sets elevs headings limits codes values powers districts =
       powers = powers;
       districts = districts;
     }
+
+-- the table of a call as a contract names it: where a `requires` speaks, and as it came
+abbrev pub tableNow : RefT (List ℕ) → RefT (List Float) → RefT (List ℕ) → RefT (List Float) → RefT (List Float) → RefT (List Float) → RefT (List ℕ) → RefT (List Float) → RefT (List Float) → RefT (List ℕ) → LinkTable
+tableNow links lengths sets elevs headings limits codes values powers districts =
+    tableOf (links .now) (lengths .now) (sets .now) (elevs .now) (headings .now) (limits .now) (codes .now) (values .now) (powers .now) (districts .now)
+
+-- a lent column, as it came and as it is left
+abbrev pub Lent : Type 0 → Type 0
+Lent A = Both (RefT (List A)) (RefT (List A))
+
+abbrev pub tableBefore : Lent ℕ → Lent Float → Lent ℕ → Lent Float → Lent Float → Lent Float → Lent ℕ → Lent Float → Lent Float → Lent ℕ → LinkTable
+tableBefore links lengths sets elevs headings limits codes values powers districts =
+    tableNow (links .entry) (lengths .entry) (sets .entry) (elevs .entry) (headings .entry) (limits .entry) (codes .entry) (values .entry) (powers .entry) (districts .entry)
 
 -- ---- records of the pools
 

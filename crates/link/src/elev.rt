@@ -66,7 +66,9 @@ fn rise_to(col: &[f64], first: usize, end: usize, o: f64, length: f64) -> bool
     requires { ⌜ first ≤ end ⌝ }
     requires { ⌜ end < 2 ^ 40 ⌝ }
     requires { ⌜ 2 * end ≤ list.length (now col) ⌝ }
-    ensures { λ r. ⌜ r ≡ (every sampleFinite (upFrom (sampleAt (now (col .entry))) first (end - first)) && riseTo length o (upFrom (sampleAt (now (col .entry))) first (end - first))) ⌝ }
+    ensures { λ r. ⌜ r ≡
+        (every sampleFinite (upFrom (sampleAt (now (col .entry))) first (end - first)) && riseTo length o
+        (upFrom (sampleAt (now (col .entry))) first (end - first))) ⌝ }
 {
     let mut i = first;
     let mut last = o;

@@ -7,7 +7,7 @@ use si::Length;
 ghost use mathlib.Core.Path.{_≡_};
 ghost use Prim.Native.Nat.{_<_, _^_};
 ghost use Rattle.link.specs.Lists.{every, upFrom};
-ghost use Rattle.link.specs.Table.{setAt, numbersOf, inTable, tableOf};
+ghost use Rattle.link.specs.Table.{setAt, numbersOf, inTable, tableBefore};
 ghost use Rattle.link.specs.Questions.{realIn, follows, setFormed, inPools, wellFormed};
 
 // Whether each position of a list passes, or the first that does not.
@@ -161,7 +161,7 @@ pub fn well_formed(
     districts: &[u32],
     n: u32,
 ) -> bool
-    ensures { λ r. ⌜ r ≡ wellFormed (tableOf (now (links .entry)) (now (lengths .entry)) (now (sets .entry)) (now (elevs .entry)) (now (headings .entry)) (now (limits .entry)) (now (codes .entry)) (now (values .entry)) (now (powers .entry)) (now (districts .entry))) n ⌝ }
+    ensures { λ r. ⌜ r ≡ wellFormed (tableBefore links lengths sets elevs headings limits codes values powers districts) n ⌝ }
 {
     let i = n as usize;
     let l = link_numbers(links, i);

@@ -10,7 +10,7 @@ use crate::train_params::TrainType;
 ghost use mathlib.Core.Path.{_≡_};
 ghost use mathlib.Core.Bool.{false};
 ghost use lib.ListN.{length};
-ghost use Rattle.link.specs.Table.{tableOf};
+ghost use Rattle.link.specs.Table.{tableBefore};
 ghost use Rattle.link.specs.Questions as spec;
 
 // The number at position k of a plain list, or of link points, four numbers to a point.
@@ -81,7 +81,8 @@ pub fn question6(
     powers: &[f64],
     districts: &[u32],
 ) -> Judged
-    ensures { λ r. ⌜ r ≡ spec.question6 (tableOf (now (links .entry)) (now (lengths .entry)) (now (sets .entry)) (now (elevs .entry)) (now (headings .entry)) (now (limits .entry)) (now (codes .entry)) (now (values .entry)) (now (powers .entry)) (now (districts .entry))) (spec.numbers points (now (list .entry)) count) ⌝ }
+    ensures { λ r. ⌜ r ≡ spec.question6
+        (tableBefore links lengths sets elevs headings limits codes values powers districts) (spec.numbers points (now (list .entry)) count) ⌝ }
 {
     let mut k = 0;
     while k < count {

@@ -11,4 +11,4 @@ pub mod ReadBack
 pub mod Tidied
 pub mod Written
 pub mod Lasts
-pub mod Standing
+pub mod WrittenSound

@@ -16,7 +16,7 @@ use Rattle.column.specs.Records.{recordAt, two}
 use Rattle.column.proofs.Bridge.{record-at}
 use Rattle.speed.specs.Points.{nowhere}
 use Rattle.speed.specs.Column.{pair, points}
-use Rattle.speed.proofs.Held.{pair-lawful, length-points}
+use Rattle.speed.proofs.PointColumn.{pair-lawful, length-points}
 use Rattle.link.specs.Lists.{every}
 use Rattle.path.specs.declared.link_point.LinkPoint.{LinkPoint}
 use Rattle.path.specs.Records.{numberOf, pointAt, linkPoints, noLinkPoint, linkPointAt}

@@ -12,7 +12,7 @@ use Rattle.column.specs.Entries.{filled, zeroFrom}
 use Rattle.column.specs.Records.{records, flat, recordAt, three, four}
 use Rattle.column.proofs.Bridge.{three-lawful, four-lawful, length-records, records-flat, zero-filled}
 use Rattle.speed.specs.Column.{pair}
-use Rattle.speed.proofs.Held.{pair-lawful}
+use Rattle.speed.proofs.PointColumn.{pair-lawful}
 use Rattle.lookup.specs.Coeff.{triple}
 use Rattle.lookup.proofs.Coeffs.{triple-lawful}
 use Rattle.link.specs.Table.{PowerLimit}

@@ -9,7 +9,7 @@ use Rattle.column.specs.Records.{flat, three, four}
 use Rattle.column.proofs.Filling.{length-filled, filled-again}
 use Rattle.column.proofs.Bridge.{three-lawful, four-lawful, length-flat}
 use Rattle.speed.specs.Column.{pair}
-use Rattle.speed.proofs.Held.{pair-lawful}
+use Rattle.speed.proofs.PointColumn.{pair-lawful}
 use Rattle.lookup.specs.Coeff.{triple}
 use Rattle.lookup.proofs.Coeffs.{triple-lawful}
 use Rattle.link.specs.Table.{PowerLimit}

@@ -11,7 +11,7 @@ use Rattle.column.specs.Records.{flat, three}
 use Rattle.column.proofs.Bridge.{three-lawful, length-records, flat-records}
 use Rattle.speed.specs.Points.{Point}
 use Rattle.speed.specs.Column.{pair}
-use Rattle.speed.proofs.Held.{pair-lawful}
+use Rattle.speed.proofs.PointColumn.{pair-lawful}
 use Rattle.lookup.specs.declared.path_res_coeff.PathResCoeff.{PathResCoeff}
 use Rattle.lookup.specs.Coeff.{triple, coeffs, standsAt, coefficientOf, netOf, closesWell, coeffsFinite}
 use Rattle.lookup.proofs.Coeffs.{triple-lawful, finite-none, finite-last, finite-more}

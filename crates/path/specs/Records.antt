@@ -5,6 +5,7 @@ use mathlib.Core.List.{List, [], _∷_, map}
 use lib.Dec.{leb}
 use lib.ListN.{length, getD, take, drop}
 use lib.Ieee.{Float}
+use denote.Ref.{RefT}
 use Rattle.ieee.specs.Number.{+0}
 use Rattle.column.specs.declared.Three.{Three}
 use Rattle.column.specs.declared.Four.{Four}
@@ -14,7 +15,7 @@ use Rattle.speed.specs.Points.{Point}
 use Rattle.speed.specs.Column.{pair, points}
 use Rattle.lookup.specs.declared.path_res_coeff.PathResCoeff.{PathResCoeff}
 use Rattle.lookup.specs.Coeff.{triple, coeffs, noCoeff}
-use Rattle.link.specs.Table.{PowerLimit, powerAt}
+use Rattle.link.specs.Table.{Lent, PowerLimit, powerAt}
 use Rattle.path.specs.declared.path_tpc.PathTpc.{PathTpc}
 use Rattle.path.specs.declared.link_point.LinkPoint.{LinkPoint}
 
@@ -36,6 +37,19 @@ pub record Columns : Type 0 where
 abbrev pub columns : List Float → List ℕ → List Float → List Float → List Float → List Float → List ℕ → Columns
 columns offsets numbers grades curves speeds powers districts =
     record { offsets = offsets; numbers = numbers; grades = grades; curves = curves; speeds = speeds; powers = powers; districts = districts }
+
+-- the columns of a call as a contract names them: where a `requires` speaks, as they came, and as they are left
+abbrev pub columnsNow : RefT (List Float) → RefT (List ℕ) → RefT (List Float) → RefT (List Float) → RefT (List Float) → RefT (List Float) → RefT (List ℕ) → Columns
+columnsNow offsets numbers grades curves speeds powers districts =
+    columns (offsets .now) (numbers .now) (grades .now) (curves .now) (speeds .now) (powers .now) (districts .now)
+
+abbrev pub columnsBefore : Lent Float → Lent ℕ → Lent Float → Lent Float → Lent Float → Lent Float → Lent ℕ → Columns
+columnsBefore offsets numbers grades curves speeds powers districts =
+    columnsNow (offsets .entry) (numbers .entry) (grades .entry) (curves .entry) (speeds .entry) (powers .entry) (districts .entry)
+
+abbrev pub columnsAfter : Lent Float → Lent ℕ → Lent Float → Lent Float → Lent Float → Lent Float → Lent ℕ → Columns
+columnsAfter offsets numbers grades curves speeds powers districts =
+    columnsNow (offsets .exit) (numbers .exit) (grades .exit) (curves .exit) (speeds .exit) (powers .exit) (districts .exit)
 
 -- R12: 1,025 link points, 16,384 grades, 16,384 curves, 4,096 speed points, 1,024 power limits, or what a shorter column holds
 -- n is at most each of three figures

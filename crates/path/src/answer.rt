@@ -5,7 +5,7 @@ use crate::path_tpc::PathTpc;
 use crate::sound::path_sound;
 use link::network::Judged;
 ghost use mathlib.Core.Path.{_≡_};
-ghost use Rattle.path.specs.Records.{columns};
+ghost use Rattle.path.specs.Records.{columnsBefore};
 ghost use Rattle.path.specs.Answers.{ask, askEach};
 ghost use Rattle.path.specs.Sound.{pathAnswer};
 
@@ -47,7 +47,7 @@ pub fn path_answer(
     powers: &[f64],
     districts: &[u32],
 ) -> Answer
-    ensures { λ r. ⌜ r ≡ pathAnswer also p (columns (now (offsets .entry)) (now (numbers .entry)) (now (grades .entry)) (now (curves .entry)) (now (speeds .entry)) (now (powers .entry)) (now (districts .entry))) ⌝ }
+    ensures { λ r. ⌜ r ≡ pathAnswer also p (columnsBefore offsets numbers grades curves speeds powers districts) ⌝ }
 {
     if !also {
         return asked(1, false);

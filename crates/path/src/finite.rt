@@ -6,7 +6,7 @@ ghost use mathlib.Core.Path.{_≡_};
 ghost use Prim.Native.Nat.{_*_, _<_};
 ghost use lib.ListN.{take};
 ghost use Rattle.ieee.specs.Number.{allFinite};
-ghost use Rattle.path.specs.Records.{columns};
+ghost use Rattle.path.specs.Records.{columnsBefore};
 ghost use Rattle.path.specs.Sound.{pathFinite, trainFinite};
 
 // Whether every entry of n records, w entries each, is finite, as far as the column has them.
@@ -32,7 +32,7 @@ pub fn path_finite(
     powers: &[f64],
     districts: &[u32],
 ) -> bool
-    ensures { λ r. ⌜ r ≡ pathFinite p (columns (now (offsets .entry)) (now (numbers .entry)) (now (grades .entry)) (now (curves .entry)) (now (speeds .entry)) (now (powers .entry)) (now (districts .entry))) ⌝ }
+    ensures { λ r. ⌜ r ≡ pathFinite p (columnsBefore offsets numbers grades curves speeds powers districts) ⌝ }
 {
     let links = column::floats::all_finite(offsets, p.link_count);
     let slopes = coeffs_finite(grades, p.grade_count, p.is_finished);

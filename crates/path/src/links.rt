@@ -7,7 +7,7 @@ use link::questions::question6;
 use link::questions::question7;
 use link::train_params::TrainType;
 ghost use mathlib.Core.Path.{_≡_};
-ghost use Rattle.link.specs.Table.{tableOf};
+ghost use Rattle.link.specs.Table.{tableBefore};
 ghost use Rattle.link.specs.Questions as questions;
 ghost use Rattle.path.specs.Answers.{linksAnswer};
 
@@ -29,7 +29,9 @@ pub fn links_answer(
     districts: &[u32],
     kind: TrainType,
 ) -> Answer
-    ensures { λ r. ⌜ r ≡ linksAnswer (tableOf (now (links .entry)) (now (lengths .entry)) (now (sets .entry)) (now (elevs .entry)) (now (headings .entry)) (now (limits .entry)) (now (codes .entry)) (now (values .entry)) (now (powers .entry)) (now (districts .entry))) kind fifth (questions.numbers points (now (list .entry)) count) ⌝ }
+    ensures { λ r. ⌜ r ≡ linksAnswer
+        (tableBefore links lengths sets elevs headings limits codes values powers districts) kind fifth
+        (questions.numbers points (now (list .entry)) count) ⌝ }
 {
     let real = asked_each(4, question4(list, points, count, links, lengths, sets));
     if real.number != 0 {

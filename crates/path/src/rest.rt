@@ -2,7 +2,7 @@
 use crate::path_tpc::PathTpc;
 ghost use mathlib.Core.Path.{_≡_};
 ghost use mathlib.Core.Bool.{true};
-ghost use Rattle.path.specs.Records.{Columns, columns, pathOf, columnsOf};
+ghost use Rattle.path.specs.Records.{Columns, columnsNow, columnsBefore, columnsAfter, pathOf, columnsOf};
 ghost use Rattle.path.specs.Sound.{withinBounds};
 
 // They become zero.
@@ -16,8 +16,12 @@ pub fn zero_rest(
     powers: &mut [f64],
     districts: &mut [u32],
 )
-    requires { ⌜ withinBounds p (columns (now offsets) (now numbers) (now grades) (now curves) (now speeds) (now powers) (now districts)) ≡ true ⌝ }
-    ensures { λ _. ⌜ _≡_ {A = Columns} (columns (now (offsets .exit)) (now (numbers .exit)) (now (grades .exit)) (now (curves .exit)) (now (speeds .exit)) (now (powers .exit)) (now (districts .exit))) (columnsOf (columns (now (offsets .entry)) (now (numbers .entry)) (now (grades .entry)) (now (curves .entry)) (now (speeds .entry)) (now (powers .entry)) (now (districts .entry))) (pathOf p (columns (now (offsets .entry)) (now (numbers .entry)) (now (grades .entry)) (now (curves .entry)) (now (speeds .entry)) (now (powers .entry)) (now (districts .entry))))) ⌝ }
+    requires { ⌜ withinBounds p (columnsNow offsets numbers grades curves speeds powers districts) ≡ true ⌝ }
+    ensures { λ _. ⌜ _≡_ {A = Columns}
+        (columnsAfter offsets numbers grades curves speeds powers districts)
+        (columnsOf
+        (columnsBefore offsets numbers grades curves speeds powers districts)
+        (pathOf p (columnsBefore offsets numbers grades curves speeds powers districts))) ⌝ }
 {
     column::floats::zero_from(&mut *offsets, p.link_count);
     column::words::zero_from(&mut *numbers, 4 * p.link_count);

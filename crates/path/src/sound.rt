@@ -12,7 +12,7 @@ ghost use Rattle.ieee.specs.Number.{+0};
 ghost use Rattle.column.specs.Records.{recordAt, two};
 ghost use Rattle.speed.specs.Column.{points};
 ghost use Rattle.lookup.specs.Coeff.{coeffs};
-ghost use Rattle.path.specs.Records.{columns, linkPoint, linkPoints, pathOf, withinAll};
+ghost use Rattle.path.specs.Records.{columns, columnsNow, columnsBefore, linkPoint, linkPoints, pathOf, withinAll};
 ghost use Rattle.path.specs.Sound as spec;
 
 fn one_of_each(p: PathTpc) -> bool
@@ -39,7 +39,7 @@ pub fn within_bounds(
     powers: &[f64],
     districts: &[u32],
 ) -> bool
-    ensures { λ r. ⌜ r ≡ spec.withinBounds p (columns (now (offsets .entry)) (now (numbers .entry)) (now (grades .entry)) (now (curves .entry)) (now (speeds .entry)) (now (powers .entry)) (now (districts .entry))) ⌝ }
+    ensures { λ r. ⌜ r ≡ spec.withinBounds p (columnsBefore offsets numbers grades curves speeds powers districts) ⌝ }
 {
     let links = within(p.link_count, 1025, offsets.len(), numbers.len() / 4);
     let slopes = within(p.grade_count, 16384, grades.len() / 3, grades.len() / 3);
@@ -153,7 +153,13 @@ fn counts_lead(p: PathTpc, offsets: &[f64], numbers: &[u32], grades: &[f64], cur
     requires { ⌜ 4 * p .«link_count» ≤ length (now numbers) ⌝ }
     requires { ⌜ 3 * p .«grade_count» ≤ length (now grades) ⌝ }
     requires { ⌜ 3 * p .«curve_count» ≤ length (now curves) ⌝ }
-    ensures { λ r. ⌜ r ≡ (spec.addUp p (spec.totals (linkPoints (p .«link_count») (now (offsets .entry)) (now (numbers .entry)))) && (spec.firstAtOffset (spec.countOf false) 0 (linkPoints (p .«link_count») (now (offsets .entry)) (now (numbers .entry))) (coeffs (p .«grade_count») (now (grades .entry))) && spec.firstAtOffset (spec.countOf true) 0 (linkPoints (p .«link_count») (now (offsets .entry)) (now (numbers .entry))) (coeffs (p .«curve_count») (now (curves .entry))))) ⌝ }
+    ensures { λ r. ⌜ r ≡
+        (spec.addUp p
+        (spec.totals (linkPoints (p .«link_count») (now (offsets .entry)) (now (numbers .entry)))) &&
+        (spec.firstAtOffset (spec.countOf false) 0
+        (linkPoints (p .«link_count») (now (offsets .entry)) (now (numbers .entry))) (coeffs (p .«grade_count») (now (grades .entry))) &&
+        spec.firstAtOffset (spec.countOf true) 0
+        (linkPoints (p .«link_count») (now (offsets .entry)) (now (numbers .entry))) (coeffs (p .«curve_count») (now (curves .entry))))) ⌝ }
 {
     let n = p.link_count;
     let grade_count = p.grade_count;
@@ -213,8 +219,8 @@ fn sound_path(
     districts: &[u32],
 ) -> bool
     requires { ⌜ spec.oneOfEach p ≡ true ⌝ }
-    requires { ⌜ spec.withinBounds p (columns (now offsets) (now numbers) (now grades) (now curves) (now speeds) (now powers) (now districts)) ≡ true ⌝ }
-    ensures { λ r. ⌜ r ≡ spec.soundPath (pathOf p (columns (now (offsets .entry)) (now (numbers .entry)) (now (grades .entry)) (now (curves .entry)) (now (speeds .entry)) (now (powers .entry)) (now (districts .entry)))) ⌝ }
+    requires { ⌜ spec.withinBounds p (columnsNow offsets numbers grades curves speeds powers districts) ≡ true ⌝ }
+    ensures { λ r. ⌜ r ≡ spec.soundPath (pathOf p (columnsBefore offsets numbers grades curves speeds powers districts)) ⌝ }
 {
     let n = p.link_count;
     let closed = closes(grades, p.grade_count) & closes(curves, p.curve_count);
@@ -240,7 +246,7 @@ pub fn path_sound(
     powers: &[f64],
     districts: &[u32],
 ) -> bool
-    ensures { λ r. ⌜ r ≡ spec.sound p (columns (now (offsets .entry)) (now (numbers .entry)) (now (grades .entry)) (now (curves .entry)) (now (speeds .entry)) (now (powers .entry)) (now (districts .entry))) ⌝ }
+    ensures { λ r. ⌜ r ≡ spec.sound p (columnsBefore offsets numbers grades curves speeds powers districts) ⌝ }
 {
     if !one_of_each(p) {
         return false;

@@ -30,12 +30,13 @@ use Rattle.path.proofs.Clauses.{within-all, times, sound-within, some-link, som
 use Rattle.path_speeds.specs.Limits.{setsOf, countAt}
 use Rattle.path_join.specs.Listed.{gradesIn, curvesIn, powersIn, sumOf}
 use Rattle.path_join.specs.Joined.{startingNet, started}
-use Rattle.path_extend.specs.Sums.{frontOf, sumsFrom}
-use Rattle.path_extend.specs.Extend.{recordsFit, followed, sumsAnswer, extendAnswer}
-use Rattle.path_extend.specs.Steps.{startFront}
+use Rattle.path_join.specs.Sums.{pathEndOf, sumsFrom}
+use Rattle.path_extend.specs.Extend.{followed, sumsAnswer, extendAnswer}
+use Rattle.path_join.specs.Fit.{recordsFit}
+use Rattle.path_extend.specs.Ready.{startPathEnd}
 use Rattle.path_extend.proofs.Assembled.{last-start}
 use Rattle.path.proofs.Counts.{last-record}
-use Rattle.path_extend.proofs.Fronts.{same-front}
+use Rattle.path_extend.proofs.PathEnds.{same-path-end}
 
 -- ---- question 5
 module _ (links : List ℕ) (os : List Float) (nums : List ℕ) (n : ℕ) (list : List ℕ) where
@@ -58,9 +59,9 @@ module _ (links : List ℕ) (os : List Float) (nums : List ℕ) (n : ℕ) (list 
 
 module _ (train : TrainParams) (t : LinkTable) (ns : List ℕ) (p : PathTpc) (c : Columns) where
   -- ---- where the path stands
-  pub front-start : sound p c ≡ true → startFront p (t .links) (t .elevs) ns (c .offsets) (c .grades) (c .curves) ≡ frontOf (started t (pathOf p c) ns)
-  unfolding startFront frontOf started pathOf
-  front-start known =
+  pub path-end-start : sound p c ≡ true → startPathEnd p (t .links) (t .elevs) ns (c .offsets) (c .grades) (c .curves) ≡ pathEndOf (started t (pathOf p c) ns)
+  unfolding startPathEnd pathEndOf started pathOf
+  path-end-start known =
       let w = sound-within p c known .0 in
       let some = some-records p c w in
       let gs = coeffs (p .«grade_count») (c .grades) in
@@ -71,7 +72,7 @@ module _ (train : TrainParams) (t : LinkTable) (ns : List ℕ) (p : PathTpc) (c 
       let e₂ = last-record (p .«grade_count») (c .grades) (some .0) in
       let e₃ = last-record (p .«curve_count») (c .curves) (some .1) in
       let e₄ = last-start (t .links) (t .elevs) gs ns (omega (arith, lg, some .0)) in
-      same-front
+      same-path-end
       (sym e₁)
       (ap standsAt (sym e₂) ∙ sym (ap standsAt e₄))
       (ap₂ (λ (k : ℕ) (x : Float). startingNet (t .links) (t .elevs) k x ns) (sym lg) (ap netOf (sym e₂)) ∙ sym (ap netOf e₄))
@@ -80,7 +81,7 @@ module _ (train : TrainParams) (t : LinkTable) (ns : List ℕ) (p : PathTpc) (c 
 -- ---- questions 8 and 9
 module _ (train : TrainParams) (own : Float) (t : LinkTable) (ns : List ℕ) (p : PathTpc) (c : Columns) where
   abbrev summed : Judged
-  summed = firstNo (sumsFrom train own t (frontOf (started t (pathOf p c) ns)) ns)
+  summed = firstNo (sumsFrom train own t (pathEndOf (started t (pathOf p c) ns)) ns)
 
   module _ {r : Answer} (e : r ≡ askEach 8 summed) where
     pub sums-8 : (r .number ≡ 0 → ⊥) → sumsAnswer train own t ns p c ≡ r

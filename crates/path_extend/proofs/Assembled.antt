@@ -35,7 +35,7 @@ use Rattle.path_stretches.specs.Stretches.{Laid}
 use Rattle.path_join.specs.Listed.{risesOf}
 use Rattle.path_join.specs.Joined.{startingNet, withNet, startNet, started, joinAll}
 use Rattle.path_join.specs.ByKind.{joinedPoints, joinedRecords, joinedPowers, HoldsPoints, PowersLaid}
-use Rattle.path_extend.specs.Steps.{doneWith}
+use Rattle.path_extend.specs.Ready.{doneWith}
 use Rattle.path_extend.proofs.Columnwise.{links-joined, grades-joined, curves-joined, powers-joined, finished-joined}
 use Rattle.path_extend.proofs.NewPoints.{newPoints, Own, drop-joined, length-joined, speeds-joined}
 use Rattle.path.proofs.Counts.{last-record}

@@ -14,7 +14,7 @@ use Rattle.path_join.specs.Listed.{Rises, risesOf, lengthAt, samplesAt, gradeEn
 use Rattle.path_join.specs.Joined.{joinRecords, joinPowers, join, joinAll}
 use Rattle.path_join.specs.ByKind.{joinedPoints, joinedRecords, joinedPowers}
 use Rattle.path_stretches.proofs.Ended.{stands-after}
-use Rattle.path_extend.proofs.Ending.{stretches-end}
+use Rattle.path_extend.proofs.StretchesEnd.{stretches-end}
 
 -- where the grades end once a link is joined
 pub base-next : (train : TrainParams) (r : Rises) (headings : List Float) (gs : List PathResCoeff) (n : ℕ) → standsAt (lastCoeff (joinRecords false train r headings (standsAt (lastCoeff gs)) gs n)) ≡ gradeEnd r (standsAt (lastCoeff gs)) n

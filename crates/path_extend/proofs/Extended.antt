@@ -14,8 +14,9 @@ use Rattle.path.proofs.InTurn.{outcome-refused, outcome-changed}
 use Rattle.path.proofs.Clauses.{sound-within}
 use Rattle.path_speeds.proofs.Few.{all-few}
 use Rattle.path_join.specs.Joined.{started, joinAll}
-use Rattle.path_extend.specs.Extend.{recordsFit, extendAnswer, extendOf}
-use Rattle.path_extend.specs.Steps.{Ready, doneWith}
+use Rattle.path_extend.specs.Extend.{extendAnswer, extendOf}
+use Rattle.path_join.specs.Fit.{recordsFit}
+use Rattle.path_extend.specs.Ready.{Ready, doneWith}
 use Rattle.path_extend.proofs.Asked.{Settled, settled}
 use Rattle.path.proofs.Tidied.{Long, changed-long, tidy-long, tidy-again, tidy-sound}
 use Rattle.path.proofs.ReadBack.{read-again}

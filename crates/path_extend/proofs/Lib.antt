@@ -1,9 +1,6 @@
 -- Laws of the definitions.
-pub mod Carried
-pub mod Summed
-pub mod Fitting
-pub mod Ending
-pub mod Fronts
+pub mod StretchesEnd
+pub mod PathEnds
 pub mod Columnwise
 pub mod NewPoints
 pub mod Assembled

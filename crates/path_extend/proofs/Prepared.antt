@@ -10,7 +10,7 @@ use Rattle.ieee.specs.Number.{+0}
 use Rattle.column.specs.Entries.{filled}
 use Rattle.column.specs.Records.{flat}
 use Rattle.speed.specs.Column.{points, Holds}
-use Rattle.speed.proofs.Held.{length-points}
+use Rattle.speed.proofs.PointColumn.{length-points}
 use Rattle.lookup.specs.Coeff.{triple, coeffs}
 use Rattle.link.specs.declared.train_params.TrainParams.{TrainParams}
 use Rattle.link.specs.Lists.{every, upFrom}
@@ -24,7 +24,7 @@ use Rattle.path_speeds.specs.Limits.{setsOf, countAt, pointFew, pointCount}
 use Rattle.path_stretches.specs.Powers.{HoldsPowers}
 use Rattle.path_join.specs.Listed.{recordsIn, powersIn, sumOf}
 use Rattle.path_join.specs.ByKind.{HoldsPoints}
-use Rattle.path_extend.specs.Steps.{Ready}
+use Rattle.path_extend.specs.Ready.{Ready}
 use Rattle.path_extend.proofs.NewPoints.{newPoints, points-few, points-counted}
 use Rattle.path_extend.proofs.Assembled.{oldPoints, allPoints, new-range, own-numbers, counts}
 use Rattle.path_extend.proofs.Asked.{Fit, fit-all}

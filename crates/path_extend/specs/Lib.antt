@@ -1,4 +1,3 @@
 -- The definitions of the crate `path_extend`: links joined to a path's end.
-pub mod Sums
 pub mod Extend
-pub mod Steps
+pub mod Ready

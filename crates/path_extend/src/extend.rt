@@ -1,7 +1,4 @@
 // `extend`: links are joined to a path's end.
-use crate::fit::records_fit;
-use crate::front::Front;
-use crate::front::sums_question;
 use link::network::Judged;
 use link::questions::question5;
 use link::train_params::TrainParams;
@@ -16,25 +13,28 @@ use path::path_tpc::Answer;
 use path::path_tpc::PathAnswer;
 use path::path_tpc::PathTpc;
 use path::rest::zero_rest;
+use path_join::fit::records_fit;
 use path_join::join::join_points;
 use path_join::join::join_powers;
 use path_join::join::join_records;
 use path_join::join::start_net;
 use path_join::join::starting_net;
+use path_join::path_end::PathEnd;
+use path_join::path_end::sums_question;
 use path_speeds::add_speeds::lay_links;
 use si::Length;
 ghost use mathlib.Core.Path.{_≡_};
 ghost use mathlib.Core.Bool.{true};
 ghost use Prim.Native.Nat.{_<_};
 ghost use Rattle.link.specs.Lists.{every};
-ghost use Rattle.link.specs.Table.{tableOf};
-ghost use Rattle.path.specs.Records.{columns, linkPoints, pathOf};
+ghost use Rattle.link.specs.Table.{tableNow, tableBefore};
+ghost use Rattle.path.specs.Records.{columns, columnsNow, columnsBefore, columnsAfter, linkPoints, pathOf};
 ghost use Rattle.path.specs.Answers.{Outcome, left, changed};
 ghost use Rattle.path.specs.Sound.{sound};
 ghost use Rattle.path_speeds.specs.Limits.{setsOf, fewAt};
 ghost use Rattle.path_join.specs.Joined.{started, joinAll};
 ghost use Rattle.path_extend.specs.Extend as spec;
-ghost use Rattle.path_extend.specs.Steps as steps;
+ghost use Rattle.path_extend.specs.Ready as ready;
 
 // Question 5 of the listed links: each follows the one before, the first the path's last link where it has one.
 fn follow_question(
@@ -54,7 +54,7 @@ fn follow_question(
 }
 
 // Where the path stands when the first listed link is joined.
-fn start_front(
+fn start_path_end(
     p: PathTpc,
     list: &[u32],
     links: &[u32],
@@ -62,16 +62,17 @@ fn start_front(
     offsets: &[f64],
     grades: &[f64],
     curves: &[f64],
-) -> Front
+) -> PathEnd
     requires { ⌜ 0 < p .«link_count» ⌝ }
     requires { ⌜ 0 < p .«grade_count» ⌝ }
     requires { ⌜ 0 < p .«curve_count» ⌝ }
-    ensures { λ r. ⌜ r ≡ steps.startFront p (now (links .entry)) (now (elevs .entry)) (now (list .entry)) (now (offsets .entry)) (now (grades .entry)) (now (curves .entry)) ⌝ }
+    ensures { λ r. ⌜ r ≡ ready.startPathEnd p (now (links .entry)) (now (elevs .entry)) (now (list .entry)) (now (offsets .entry))
+        (now (grades .entry)) (now (curves .entry)) ⌝ }
 {
     let grade = coeff_at(grades, p.grade_count - 1);
     let curve = coeff_at(curves, p.curve_count - 1);
     let net = starting_net(p.grade_count, Length(grade.res_net.0), list, links, elevs);
-    Front {
+    PathEnd {
         link: Length(column::floats::get(offsets, p.link_count - 1)),
         grade: Length(grade.offset.0),
         grade_net: Length(net.0),
@@ -100,16 +101,19 @@ fn sums_answer(
     limits: &[f64],
     codes: &[u32],
     values: &[f64],
-    pool: &[f64],
-    regions: &[u32],
+    link_powers: &[f64],
+    link_districts: &[u32],
 ) -> Answer
-    requires { ⌜ sound p (columns (now offsets) (now numbers) (now grades) (now curves) (now speeds) (now powers) (now districts)) ≡ true ⌝ }
-    requires { ⌜ every (fewAt train (setsOf (tableOf (now links) (now lengths) (now sets) (now elevs) (now headings) (now limits) (now codes) (now values) (now pool) (now regions)))) (now list) ≡ true ⌝ }
-    ensures { λ r. ⌜ r ≡ spec.sumsAnswer train (own .0) (tableOf (now (links .entry)) (now (lengths .entry)) (now (sets .entry)) (now (elevs .entry)) (now (headings .entry)) (now (limits .entry)) (now (codes .entry)) (now (values .entry)) (now (pool .entry)) (now (regions .entry))) (now (list .entry)) p (columns (now (offsets .entry)) (now (numbers .entry)) (now (grades .entry)) (now (curves .entry)) (now (speeds .entry)) (now (powers .entry)) (now (districts .entry))) ⌝ }
+    requires { ⌜ sound p (columnsNow offsets numbers grades curves speeds powers districts) ≡ true ⌝ }
+    requires { ⌜ every
+        (fewAt train (setsOf (tableNow links lengths sets elevs headings limits codes values «link_powers» «link_districts»))) (now list) ≡ true ⌝ }
+    ensures { λ r. ⌜ r ≡ spec.sumsAnswer train (own .0)
+        (tableBefore links lengths sets elevs headings limits codes values «link_powers» «link_districts») (now (list .entry)) p
+        (columnsBefore offsets numbers grades curves speeds powers districts) ⌝ }
 {
-    let front = start_front(p, list, links, elevs, offsets, grades, curves);
+    let start = start_path_end(p, list, links, elevs, offsets, grades, curves);
     let sums = sums_question(
-        front,
+        start,
         list,
         links,
         lengths,
@@ -119,8 +123,8 @@ fn sums_answer(
         limits,
         codes,
         values,
-        pool,
-        regions,
+        link_powers,
+        link_districts,
         own,
         train,
     );
@@ -147,8 +151,8 @@ fn sums_answer(
         limits,
         codes,
         values,
-        pool,
-        regions,
+        link_powers,
+        link_districts,
     );
     asked(9, fit)
 }
@@ -173,10 +177,12 @@ fn extend_answer(
     limits: &[f64],
     codes: &[u32],
     values: &[f64],
-    pool: &[f64],
-    regions: &[u32],
+    link_powers: &[f64],
+    link_districts: &[u32],
 ) -> Answer
-    ensures { λ r. ⌜ r ≡ spec.extendAnswer train (tableOf (now (links .entry)) (now (lengths .entry)) (now (sets .entry)) (now (elevs .entry)) (now (headings .entry)) (now (limits .entry)) (now (codes .entry)) (now (values .entry)) (now (pool .entry)) (now (regions .entry))) (now (list .entry)) p (columns (now (offsets .entry)) (now (numbers .entry)) (now (grades .entry)) (now (curves .entry)) (now (speeds .entry)) (now (powers .entry)) (now (districts .entry))) ⌝ }
+    ensures { λ r. ⌜ r ≡ spec.extendAnswer train
+        (tableBefore links lengths sets elevs headings limits codes values «link_powers» «link_districts») (now (list .entry)) p
+        (columnsBefore offsets numbers grades curves speeds powers districts) ⌝ }
 {
     let first = path_answer(
         p,
@@ -209,8 +215,8 @@ fn extend_answer(
         limits,
         codes,
         values,
-        pool,
-        regions,
+        link_powers,
+        link_districts,
         kind,
     );
     if named.number != 0 {
@@ -237,8 +243,8 @@ fn extend_answer(
         limits,
         codes,
         values,
-        pool,
-        regions,
+        link_powers,
+        link_districts,
     )
 }
 
@@ -262,12 +268,22 @@ fn joined(
     limits: &[f64],
     codes: &[u32],
     values: &[f64],
-    pool: &[f64],
-    regions: &[u32],
+    link_powers: &[f64],
+    link_districts: &[u32],
 ) -> PathTpc
-    requires { ⌜ sound p (columns (now offsets) (now numbers) (now grades) (now curves) (now speeds) (now powers) (now districts)) ≡ true ⌝ }
-    requires { ⌜ steps.Ready train (tableOf (now links) (now lengths) (now sets) (now elevs) (now headings) (now limits) (now codes) (now values) (now pool) (now regions)) (now list) p (columns (now offsets) (now numbers) (now grades) (now curves) (now speeds) (now powers) (now districts)) ⌝ }
-    ensures { λ r. ⌜ _≡_ {A = Outcome} (left (steps.doneWith r) (columns (now (offsets .exit)) (now (numbers .exit)) (now (grades .exit)) (now (curves .exit)) (now (speeds .exit)) (now (powers .exit)) (now (districts .exit)))) (changed (columns (now (offsets .entry)) (now (numbers .entry)) (now (grades .entry)) (now (curves .entry)) (now (speeds .entry)) (now (powers .entry)) (now (districts .entry))) (joinAll train (tableOf (now (links .entry)) (now (lengths .entry)) (now (sets .entry)) (now (elevs .entry)) (now (headings .entry)) (now (limits .entry)) (now (codes .entry)) (now (values .entry)) (now (pool .entry)) (now (regions .entry))) (started (tableOf (now (links .entry)) (now (lengths .entry)) (now (sets .entry)) (now (elevs .entry)) (now (headings .entry)) (now (limits .entry)) (now (codes .entry)) (now (values .entry)) (now (pool .entry)) (now (regions .entry))) (pathOf p (columns (now (offsets .entry)) (now (numbers .entry)) (now (grades .entry)) (now (curves .entry)) (now (speeds .entry)) (now (powers .entry)) (now (districts .entry)))) (now (list .entry))) (now (list .entry)))) ⌝ }
+    requires { ⌜ sound p (columnsNow offsets numbers grades curves speeds powers districts) ≡ true ⌝ }
+    requires { ⌜ ready.Ready train
+        (tableNow links lengths sets elevs headings limits codes values «link_powers» «link_districts») (now list) p
+        (columnsNow offsets numbers grades curves speeds powers districts) ⌝ }
+    ensures { λ r. ⌜ _≡_ {A = Outcome}
+        (left (ready.doneWith r) (columnsAfter offsets numbers grades curves speeds powers districts))
+        (changed
+        (columnsBefore offsets numbers grades curves speeds powers districts)
+        (joinAll train
+        (tableBefore links lengths sets elevs headings limits codes values «link_powers» «link_districts»)
+        (started
+        (tableBefore links lengths sets elevs headings limits codes values «link_powers» «link_districts»)
+        (pathOf p (columnsBefore offsets numbers grades curves speeds powers districts)) (now (list .entry))) (now (list .entry)))) ⌝ }
 {
     let begin = Length(coeff_at(&*grades, p.grade_count - 1).offset.0);
     join_points(
@@ -327,8 +343,8 @@ fn joined(
         links,
         lengths,
         elevs,
-        pool,
-        regions,
+        link_powers,
+        link_districts,
     );
     PathTpc {
         link_count: p.link_count + list.len(),
@@ -360,10 +376,14 @@ pub fn extend(
     limits: &[f64],
     codes: &[u32],
     values: &[f64],
-    pool: &[f64],
-    regions: &[u32],
+    link_powers: &[f64],
+    link_districts: &[u32],
 ) -> PathAnswer
-    ensures { λ r. ⌜ _≡_ {A = Outcome} (left r (columns (now (offsets .exit)) (now (numbers .exit)) (now (grades .exit)) (now (curves .exit)) (now (speeds .exit)) (now (powers .exit)) (now (districts .exit)))) (spec.extendOf train (tableOf (now (links .entry)) (now (lengths .entry)) (now (sets .entry)) (now (elevs .entry)) (now (headings .entry)) (now (limits .entry)) (now (codes .entry)) (now (values .entry)) (now (pool .entry)) (now (regions .entry))) (now (list .entry)) p (columns (now (offsets .entry)) (now (numbers .entry)) (now (grades .entry)) (now (curves .entry)) (now (speeds .entry)) (now (powers .entry)) (now (districts .entry)))) ⌝ }
+    ensures { λ r. ⌜ _≡_ {A = Outcome}
+        (left r (columnsAfter offsets numbers grades curves speeds powers districts))
+        (spec.extendOf train
+        (tableBefore links lengths sets elevs headings limits codes values «link_powers» «link_districts») (now (list .entry)) p
+        (columnsBefore offsets numbers grades curves speeds powers districts)) ⌝ }
 {
     let answer = extend_answer(
         p,
@@ -384,8 +404,8 @@ pub fn extend(
         limits,
         codes,
         values,
-        pool,
-        regions,
+        link_powers,
+        link_districts,
     );
     if answer.number != 0 {
         return PathAnswer { answer, path: p };
@@ -419,8 +439,8 @@ pub fn extend(
         limits,
         codes,
         values,
-        pool,
-        regions,
+        link_powers,
+        link_districts,
     );
     PathAnswer { answer, path }
 }

@@ -19,7 +19,7 @@ use Rattle.link.specs.Lists.{upFrom}
 use Rattle.link.specs.Table.{sampleAt, numbersOf}
 use Rattle.path.specs.Records.{lastCoeff}
 use Rattle.path_stretches.specs.Stretches.{stretches, recordCount, stretchCount, layStretches, Laid}
-use Rattle.path_stretches.proofs.Steps.{count-range}
+use Rattle.path_stretches.proofs.StretchSteps.{count-range}
 use Rattle.path_join.specs.Listed.{Rises, lengthAt, samplesAt, recordsIn, sumOf, gradeEnd}
 use Rattle.path_join.specs.Joined.{joinRecords}
 use Rattle.path_join.specs.ByKind.{joinedRecords}

@@ -2,3 +2,6 @@
 pub mod Listed
 pub mod Joined
 pub mod ByKind
+pub mod Sums
+pub mod Fit
+pub mod Walked

@@ -65,7 +65,8 @@ pub fn start_net(grades: &mut [f64], m: usize, list: &[u32], links: &[u32], elev
     requires { ⌜ 0 < m ⌝ }
     requires { ⌜ 3 * m ≤ length (now grades) ⌝ }
     requires { ⌜ now grades ≡ filled +0 (length (now grades)) (flat triple (coeffs m (now grades))) ⌝ }
-    ensures { λ _. ⌜ now (grades .exit) ≡ filled +0 (length (now (grades .entry))) (flat triple (spec.startNet (now (links .entry)) (now (elevs .entry)) (coeffs m (now (grades .entry))) (now (list .entry)))) ⌝ }
+    ensures { λ _. ⌜ now (grades .exit) ≡ filled +0 (length (now (grades .entry)))
+        (flat triple (spec.startNet (now (links .entry)) (now (elevs .entry)) (coeffs m (now (grades .entry))) (now (list .entry)))) ⌝ }
 {
     let g = coeff_at(&*grades, m - 1);
     let net = starting_net(m, Length(g.res_net.0), list, links, elevs);
@@ -94,7 +95,8 @@ fn join_point(
     requires { ⌜ n < length (now offsets) ⌝ }
     requires { ⌜ 4 * (n + 1) ≤ length (now numbers) ⌝ }
     requires { ⌜ kinds.HoldsPoints (now offsets) (now numbers) (linkPoints n (now offsets) (now numbers)) ⌝ }
-    ensures { λ _. ⌜ kinds.HoldsPoints (now (offsets .exit)) (now (numbers .exit)) (spec.joinPoint (now (links .entry)) (now (lengths .entry)) (linkPoints n (now (offsets .entry)) (now (numbers .entry))) i) ⌝ }
+    ensures { λ _. ⌜ kinds.HoldsPoints (now (offsets .exit)) (now (numbers .exit))
+        (spec.joinPoint (now (links .entry)) (now (lengths .entry)) (linkPoints n (now (offsets .entry)) (now (numbers .entry))) i) ⌝ }
 {
     let l = link_numbers(links, i);
     let base = column::floats::get(&*offsets, n - 1);
@@ -124,7 +126,9 @@ pub fn join_points(
     requires { ⌜ n + length (now list) ≤ length (now offsets) ⌝ }
     requires { ⌜ 4 * (n + length (now list)) ≤ length (now numbers) ⌝ }
     requires { ⌜ kinds.HoldsPoints (now offsets) (now numbers) (linkPoints n (now offsets) (now numbers)) ⌝ }
-    ensures { λ _. ⌜ kinds.HoldsPoints (now (offsets .exit)) (now (numbers .exit)) (kinds.joinedPoints (now (links .entry)) (now (lengths .entry)) (linkPoints n (now (offsets .entry)) (now (numbers .entry))) (now (list .entry))) ⌝ }
+    ensures { λ _. ⌜ kinds.HoldsPoints (now (offsets .exit)) (now (numbers .exit))
+        (kinds.joinedPoints (now (links .entry)) (now (lengths .entry)) (linkPoints n (now (offsets .entry)) (now (numbers .entry)))
+        (now (list .entry))) ⌝ }
 {
     let mut k = 0;
     while k < list.len() {
@@ -157,7 +161,10 @@ pub fn join_records(
     requires { ⌜ length (now list) ≤ 1025 ⌝ }
     requires { ⌜ 3 * (m + sumOf (recordsIn curves (now links)) (now list)) ≤ length (now col) ⌝ }
     requires { ⌜ now col ≡ filled +0 (length (now col)) (flat triple (coeffs m (now col))) ⌝ }
-    ensures { λ r. ⌜ Laid (now (col .exit)) r (length (now (col .entry))) (kinds.joinedRecords curves train (rises (now (links .entry)) (now (lengths .entry)) (now (elevs .entry))) (now (headings .entry)) (begin .0) (coeffs m (now (col .entry))) (now (list .entry))) ⌝ }
+    ensures { λ r. ⌜ Laid (now (col .exit)) r (length (now (col .entry)))
+        (kinds.joinedRecords curves train
+        (rises (now (links .entry)) (now (lengths .entry)) (now (elevs .entry))) (now (headings .entry)) (begin .0) (coeffs m (now (col .entry)))
+        (now (list .entry))) ⌝ }
 {
     let mut n = m;
     let mut base = begin.0;
@@ -199,7 +206,9 @@ fn join_record(
     requires { ⌜ i < 2 ^ 40 ⌝ }
     requires { ⌜ 3 * (m + recordsIn curves (now links) i) ≤ length (now col) ⌝ }
     requires { ⌜ now col ≡ filled +0 (length (now col)) (flat triple (coeffs m (now col))) ⌝ }
-    ensures { λ r. ⌜ Laid (now (col .exit)) r (length (now (col .entry))) (spec.joinRecords curves train (rises (now (links .entry)) (now (lengths .entry)) (now (elevs .entry))) (now (headings .entry)) (base .0) (coeffs m (now (col .entry))) i) ⌝ }
+    ensures { λ r. ⌜ Laid (now (col .exit)) r (length (now (col .entry)))
+        (spec.joinRecords curves train
+        (rises (now (links .entry)) (now (lengths .entry)) (now (elevs .entry))) (now (headings .entry)) (base .0) (coeffs m (now (col .entry))) i) ⌝ }
 {
     let l = link_numbers(links, i);
     let length = Length(column::floats::get(lengths, i));
@@ -243,14 +252,18 @@ pub fn join_powers(
     links: &[u32],
     lengths: &[f64],
     elevs: &[f64],
-    pool: &[f64],
-    regions: &[u32],
+    link_powers: &[f64],
+    link_districts: &[u32],
 ) -> usize
     requires { ⌜ length (now list) ≤ 1025 ⌝ }
     requires { ⌜ 3 * (m + sumOf (powersIn (now links)) (now list)) ≤ length (now powers) ⌝ }
     requires { ⌜ m + sumOf (powersIn (now links)) (now list) ≤ length (now districts) ⌝ }
     requires { ⌜ HoldsPowers (now powers) (now districts) (powerLimits m (now powers) (now districts)) ⌝ }
-    ensures { λ r. ⌜ kinds.PowersLaid (now (powers .exit)) (now (districts .exit)) r (kinds.joinedPowers (rises (now (links .entry)) (now (lengths .entry)) (now (elevs .entry))) (now (pool .entry)) (now (regions .entry)) (begin .0) (powerLimits m (now (powers .entry)) (now (districts .entry))) (now (list .entry))) ⌝ }
+    ensures { λ r. ⌜ kinds.PowersLaid (now (powers .exit)) (now (districts .exit)) r
+        (kinds.joinedPowers
+        (rises (now (links .entry)) (now (lengths .entry)) (now (elevs .entry))) (now («link_powers» .entry)) (now («link_districts» .entry))
+        (begin .0)
+        (powerLimits m (now (powers .entry)) (now (districts .entry))) (now (list .entry))) ⌝ }
 {
     let mut n = m;
     let mut base = begin.0;
@@ -264,8 +277,8 @@ pub fn join_powers(
             &mut *powers,
             &mut *districts,
             n,
-            pool,
-            regions,
+            link_powers,
+            link_districts,
             first,
             count,
             Length(base),

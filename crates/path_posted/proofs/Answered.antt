@@ -16,7 +16,7 @@ use Rattle.ieee.proofs.Order.{eq→le, le-trans, of-true}
 use Rattle.speed.specs.Points.{Point, offsetAt}
 use Rattle.speed.specs.Column.{points}
 use Rattle.speed.specs.Posted.{posted, Sorted}
-use Rattle.speed.proofs.Held.{length-points}
+use Rattle.speed.proofs.PointColumn.{length-points}
 use Rattle.path.specs.declared.path_tpc.PathTpc.{PathTpc}
 use Rattle.path.specs.declared.path_tpc.Answer.{Answer}
 use Rattle.path.specs.declared.link_point.LinkPoint.{LinkPoint}
@@ -26,7 +26,7 @@ use Rattle.path.specs.Sound.{sortedFrom, sound, pathAnswer}
 use Rattle.path.proofs.LinkPoints.{link-at}
 use Rattle.path.proofs.InTurn.{turn-no, turn-yes, turn-done, first-done, last-one, judged-done}
 use Rattle.path.proofs.Clauses.{sound-more, sound-within, some-link, some-records, room}
-use Rattle.path.proofs.Standing.{points-order, points-begin, clauses}
+use Rattle.path.proofs.WrittenSound.{points-order, points-begin, clauses}
 use Rattle.path_posted.specs.declared.posted_speed.PostedAnswer.{PostedAnswer}
 use Rattle.path_posted.specs.Posted.{notBefore, postedAnswer, postedOf}
 

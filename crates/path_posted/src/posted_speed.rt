@@ -7,7 +7,7 @@ use si::Length;
 use si::Velocity;
 use speed::posted::posted_at;
 ghost use mathlib.Core.Path.{_≡_};
-ghost use Rattle.path.specs.Records.{columns};
+ghost use Rattle.path.specs.Records.{columnsBefore};
 ghost use Rattle.path_posted.specs.Posted as spec;
 
 // An answer, and the speed that goes with it.
@@ -29,7 +29,7 @@ fn posted_answer(
     powers: &[f64],
     districts: &[u32],
 ) -> Answer
-    ensures { λ r. ⌜ r ≡ spec.postedAnswer (x .0) p (columns (now (offsets .entry)) (now (numbers .entry)) (now (grades .entry)) (now (curves .entry)) (now (speeds .entry)) (now (powers .entry)) (now (districts .entry))) ⌝ }
+    ensures { λ r. ⌜ r ≡ spec.postedAnswer (x .0) p (columnsBefore offsets numbers grades curves speeds powers districts) ⌝ }
 {
     let finite = ieee::is_finite(x.0);
     let first = path_answer(
@@ -61,7 +61,7 @@ pub fn posted_speed(
     powers: &[f64],
     districts: &[u32],
 ) -> PostedAnswer
-    ensures { λ r. ⌜ r ≡ spec.postedOf (x .0) p (columns (now (offsets .entry)) (now (numbers .entry)) (now (grades .entry)) (now (curves .entry)) (now (speeds .entry)) (now (powers .entry)) (now (districts .entry))) ⌝ }
+    ensures { λ r. ⌜ r ≡ spec.postedOf (x .0) p (columnsBefore offsets numbers grades curves speeds powers districts) ⌝ }
 {
     let answer = posted_answer(
         p,

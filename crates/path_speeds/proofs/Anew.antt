@@ -9,7 +9,7 @@ use Rattle.column.specs.Entries.{zeroFrom}
 use Rattle.column.specs.Records.{putRecord, two}
 use Rattle.speed.specs.Points.{Point, point}
 use Rattle.speed.specs.Column.{points, Holds, Leaves}
-use Rattle.speed.proofs.Held.{holds-points, holds-again, leaves-at, one-held}
+use Rattle.speed.proofs.PointColumn.{holds-points, holds-again, leaves-at, one-held}
 use Rattle.link.specs.declared.train_params.TrainParams.{TrainParams}
 use Rattle.link.specs.Train.{topSpeed}
 use Rattle.path.specs.declared.link_point.LinkPoint.{LinkPoint}

@@ -14,7 +14,7 @@ use Rattle.column.specs.Records.{flat}
 use Rattle.column.proofs.Filling.{length-filled}
 use Rattle.column.proofs.Bridge.{length-flat}
 use Rattle.speed.specs.Column.{pair, points, Leaves}
-use Rattle.speed.proofs.Held.{pair-lawful, length-points, leaves-at}
+use Rattle.speed.proofs.PointColumn.{pair-lawful, length-points, leaves-at}
 use Rattle.link.specs.declared.train_params.TrainParams.{TrainParams}
 use Rattle.link.specs.declared.network.Judged.the-variants.{Yes}
 use Rattle.link.specs.Lists.{every, upFrom, firstNo}

@@ -32,8 +32,8 @@ pub fn link_finite(
     train: TrainParams,
 ) -> bool
     requires { ⌜ i < 2 ^ 40 ⌝ }
-    requires { ⌜ spec.fewAt train (spec.speedSets (now sets) (now codes) (now values) (now limits)) i ≡ true ⌝ }
-    ensures { λ r. ⌜ r ≡ spec.finiteAt train (length .0) (spec.speedSets (now (sets .entry)) (now (codes .entry)) (now (values .entry)) (now (limits .entry))) (base .0) i ⌝ }
+    requires { ⌜ spec.fewAt train (spec.speedSetsNow sets codes values limits) i ≡ true ⌝ }
+    ensures { λ r. ⌜ r ≡ spec.finiteAt train (length .0) (spec.speedSetsBefore sets codes values limits) (base .0) i ⌝ }
 {
     let SetFound::Found(s) = applying_set(sets, codes, values, i, train) else {
         return true;
@@ -42,7 +42,7 @@ pub fn link_finite(
 }
 
 // How many limits link i lays.
-pub fn link_count(
+pub fn link_limit_count(
     sets: &[u32],
     codes: &[u32],
     values: &[f64],
@@ -51,8 +51,8 @@ pub fn link_count(
     train: TrainParams,
 ) -> usize
     requires { ⌜ i < 2 ^ 40 ⌝ }
-    requires { ⌜ spec.fewAt train (spec.speedSets (now sets) (now codes) (now values) (now limits)) i ≡ true ⌝ }
-    ensures { λ r. ⌜ r ≡ spec.countAt train (spec.speedSets (now (sets .entry)) (now (codes .entry)) (now (values .entry)) (now (limits .entry))) i ⌝ }
+    requires { ⌜ spec.fewAt train (spec.speedSetsNow sets codes values limits) i ≡ true ⌝ }
+    ensures { λ r. ⌜ r ≡ spec.countAt train (spec.speedSetsBefore sets codes values limits) i ⌝ }
 {
     let SetFound::Found(s) = applying_set(sets, codes, values, i, train) else {
         return 0;
@@ -75,10 +75,11 @@ pub fn add_speeds(
 ) -> usize
     requires { ⌜ 0 < n ⌝ }
     requires { ⌜ i < 2 ^ 40 ⌝ }
-    requires { ⌜ spec.fewAt train (spec.speedSets (now sets) (now codes) (now values) (now limits)) i ≡ true ⌝ }
-    requires { ⌜ 2 * (n + 2 * spec.countAt train (spec.speedSets (now sets) (now codes) (now values) (now limits)) i) ≤ list.length (now col) ⌝ }
+    requires { ⌜ spec.fewAt train (spec.speedSetsNow sets codes values limits) i ≡ true ⌝ }
+    requires { ⌜ 2 * (n + 2 * spec.countAt train (spec.speedSetsNow sets codes values limits) i) ≤ list.length (now col) ⌝ }
     requires { ⌜ Holds (now col) (points n (now col)) ⌝ }
-    ensures { λ r. ⌜ Leaves (now (col .exit)) r (spec.layAll (points n (now (col .entry))) (spec.layingAt train (length .0) (spec.speedSets (now (sets .entry)) (now (codes .entry)) (now (values .entry)) (now (limits .entry))) (base .0) i)) ⌝ }
+    ensures { λ r. ⌜ Leaves (now (col .exit)) r
+        (spec.layAll (points n (now (col .entry))) (spec.layingAt train (length .0) (spec.speedSetsBefore sets codes values limits) (base .0) i)) ⌝ }
 {
     let SetFound::Found(s) = applying_set(sets, codes, values, i, train) else {
         return n;
@@ -98,8 +99,11 @@ pub fn points_finite(
     length: Length,
     train: TrainParams,
 ) -> Judged
-    requires { ⌜ every (spec.pointFew train (spec.speedSets (now sets) (now codes) (now values) (now limits))) (upFrom (pointAt (now offsets) (now numbers)) 0 count) ≡ true ⌝ }
-    ensures { λ r. ⌜ r ≡ firstNo (map (spec.pointFinite train (length .0) (spec.speedSets (now (sets .entry)) (now (codes .entry)) (now (values .entry)) (now (limits .entry)))) (upFrom (pointAt (now (offsets .entry)) (now (numbers .entry))) 0 count)) ⌝ }
+    requires { ⌜ every (spec.pointFew train (spec.speedSetsNow sets codes values limits)) (upFrom (pointAt (now offsets) (now numbers)) 0 count) ≡ true ⌝ }
+    ensures { λ r. ⌜ r ≡ firstNo
+        (map
+        (spec.pointFinite train (length .0) (spec.speedSetsBefore sets codes values limits))
+        (upFrom (pointAt (now (offsets .entry)) (now (numbers .entry))) 0 count)) ⌝ }
 {
     let mut k = 0;
     while k < count {
@@ -126,14 +130,16 @@ pub fn points_count(
     train: TrainParams,
 ) -> usize
     requires { ⌜ count ≤ 1025 ⌝ }
-    requires { ⌜ every (spec.pointFew train (spec.speedSets (now sets) (now codes) (now values) (now limits))) (upFrom (pointAt (now offsets) (now numbers)) 0 count) ≡ true ⌝ }
-    ensures { λ r. ⌜ r ≡ total (spec.pointCount train (spec.speedSets (now (sets .entry)) (now (codes .entry)) (now (values .entry)) (now (limits .entry)))) (upFrom (pointAt (now (offsets .entry)) (now (numbers .entry))) 0 count) ⌝ }
+    requires { ⌜ every (spec.pointFew train (spec.speedSetsNow sets codes values limits)) (upFrom (pointAt (now offsets) (now numbers)) 0 count) ≡ true ⌝ }
+    ensures { λ r. ⌜ r ≡ total
+        (spec.pointCount train (spec.speedSetsBefore sets codes values limits))
+        (upFrom (pointAt (now (offsets .entry)) (now (numbers .entry))) 0 count) ⌝ }
 {
     let mut n = 0;
     let mut k = 0;
     while k < count {
         let p = link_point_at(offsets, numbers, k);
-        n += link_count(sets, codes, values, limits, p.link_idx as usize, train);
+        n += link_limit_count(sets, codes, values, limits, p.link_idx as usize, train);
         k += 1;
     }
     n
@@ -156,10 +162,14 @@ pub fn lay_links(
 ) -> usize
     requires { ⌜ 0 < n ⌝ }
     requires { ⌜ first + count ≤ 1025 ⌝ }
-    requires { ⌜ every (spec.pointFew train (spec.speedSets (now sets) (now codes) (now values) (now limits))) (upFrom (pointAt (now offsets) (now numbers)) first count) ≡ true ⌝ }
-    requires { ⌜ 2 * (n + 2 * total (spec.pointCount train (spec.speedSets (now sets) (now codes) (now values) (now limits))) (upFrom (pointAt (now offsets) (now numbers)) first count)) ≤ list.length (now col) ⌝ }
+    requires { ⌜ every (spec.pointFew train (spec.speedSetsNow sets codes values limits)) (upFrom (pointAt (now offsets) (now numbers)) first count) ≡ true ⌝ }
+    requires { ⌜ 2 *
+        (n + 2 * total (spec.pointCount train (spec.speedSetsNow sets codes values limits)) (upFrom (pointAt (now offsets) (now numbers)) first count))
+        ≤ list.length (now col) ⌝ }
     requires { ⌜ Holds (now col) (points n (now col)) ⌝ }
-    ensures { λ r. ⌜ Leaves (now (col .exit)) r (spec.layLinks train (length .0) (spec.speedSets (now (sets .entry)) (now (codes .entry)) (now (values .entry)) (now (limits .entry))) (points n (now (col .entry))) (upFrom (pointAt (now (offsets .entry)) (now (numbers .entry))) first count)) ⌝ }
+    ensures { λ r. ⌜ Leaves (now (col .exit)) r
+        (spec.layLinks train (length .0) (spec.speedSetsBefore sets codes values limits) (points n (now (col .entry)))
+        (upFrom (pointAt (now (offsets .entry)) (now (numbers .entry))) first count)) ⌝ }
 {
     let mut m = n;
     let mut k = first;

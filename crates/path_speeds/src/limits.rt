@@ -128,7 +128,8 @@ pub fn lay_limits(
     requires { ⌜ 0 < n ⌝ }
     requires { ⌜ 2 * (n + 2 * spec.countLaid (top .0) (now limits) (Found s)) ≤ list.length (now col) ⌝ }
     requires { ⌜ Holds (now col) (points n (now col)) ⌝ }
-    ensures { λ r. ⌜ Leaves (now (col .exit)) r (spec.layAll (points n (now (col .entry))) (spec.laying (top .0) (base .0) (length .0) (now (limits .entry)) (Found s))) ⌝ }
+    ensures { λ r. ⌜ Leaves (now (col .exit)) r
+        (spec.layAll (points n (now (col .entry))) (spec.laying (top .0) (base .0) (length .0) (now (limits .entry)) (Found s))) ⌝ }
 {
     let tail = tail_of(s, length);
     let first = s.limits_first as usize;

@@ -23,11 +23,11 @@ ghost use Prim.Native.Nat.{_+_, _*_, _≤_};
 ghost use lib.ListN as list;
 ghost use Rattle.speed.specs.Column.{Leaves};
 ghost use Rattle.link.specs.Lists.{every, upFrom};
-ghost use Rattle.link.specs.Table.{tableOf};
-ghost use Rattle.path.specs.Records.{columns, pointAt};
+ghost use Rattle.link.specs.Table.{tableBefore};
+ghost use Rattle.path.specs.Records.{columnsBefore, columnsAfter, pointAt};
 ghost use Rattle.path.specs.Answers.{Outcome, left};
 ghost use Rattle.path.specs.Sound.{total};
-ghost use Rattle.path_speeds.specs.Limits.{speedSets, pointFew, pointCount};
+ghost use Rattle.path_speeds.specs.Limits.{speedSetsNow, speedSetsBefore, pointFew, pointCount};
 ghost use Rattle.path_speeds.specs.Recalc as spec;
 
 // Questions 8 and 9, for a train of the length `own`.
@@ -44,8 +44,9 @@ fn limits_answer(
     train: TrainParams,
 ) -> Answer
     requires { ⌜ count ≤ 1025 ⌝ }
-    requires { ⌜ every (pointFew train (speedSets (now sets) (now codes) (now values) (now limits))) (upFrom (pointAt (now offsets) (now numbers)) 0 count) ≡ true ⌝ }
-    ensures { λ r. ⌜ r ≡ spec.limitsAnswer train (own .0) (speedSets (now (sets .entry)) (now (codes .entry)) (now (values .entry)) (now (limits .entry))) (upFrom (pointAt (now (offsets .entry)) (now (numbers .entry))) 0 count) (list.length (now (speeds .entry))) ⌝ }
+    requires { ⌜ every (pointFew train (speedSetsNow sets codes values limits)) (upFrom (pointAt (now offsets) (now numbers)) 0 count) ≡ true ⌝ }
+    ensures { λ r. ⌜ r ≡ spec.limitsAnswer train (own .0) (speedSetsBefore sets codes values limits)
+        (upFrom (pointAt (now (offsets .entry)) (now (numbers .entry))) 0 count) (list.length (now (speeds .entry))) ⌝ }
 {
     let sums = points_finite(
         offsets,
@@ -88,10 +89,12 @@ fn recalc_answer(
     limits: &[f64],
     codes: &[u32],
     values: &[f64],
-    pool: &[f64],
-    regions: &[u32],
+    link_powers: &[f64],
+    link_districts: &[u32],
 ) -> Answer
-    ensures { λ r. ⌜ r ≡ spec.recalcAnswer train (tableOf (now (links .entry)) (now (lengths .entry)) (now (sets .entry)) (now (elevs .entry)) (now (headings .entry)) (now (limits .entry)) (now (codes .entry)) (now (values .entry)) (now (pool .entry)) (now (regions .entry))) p (columns (now (offsets .entry)) (now (numbers .entry)) (now (grades .entry)) (now (curves .entry)) (now (speeds .entry)) (now (powers .entry)) (now (districts .entry))) ⌝ }
+    ensures { λ r. ⌜ r ≡ spec.recalcAnswer train
+        (tableBefore links lengths sets elevs headings limits codes values «link_powers» «link_districts») p
+        (columnsBefore offsets numbers grades curves speeds powers districts) ⌝ }
 {
     let first = path_answer(
         p,
@@ -122,8 +125,8 @@ fn recalc_answer(
         limits,
         codes,
         values,
-        pool,
-        regions,
+        link_powers,
+        link_districts,
         kind,
     );
     if present.number != 0 {
@@ -158,9 +161,13 @@ fn lay_anew(
     train: TrainParams,
 ) -> usize
     requires { ⌜ count ≤ 1025 ⌝ }
-    requires { ⌜ every (pointFew train (speedSets (now sets) (now codes) (now values) (now limits))) (upFrom (pointAt (now offsets) (now numbers)) 0 count) ≡ true ⌝ }
-    requires { ⌜ 2 * (1 + 2 * total (pointCount train (speedSets (now sets) (now codes) (now values) (now limits))) (upFrom (pointAt (now offsets) (now numbers)) 0 count)) ≤ list.length (now speeds) ⌝ }
-    ensures { λ r. ⌜ Leaves (now (speeds .exit)) r (spec.laidAnew train (own .0) (speedSets (now (sets .entry)) (now (codes .entry)) (now (values .entry)) (now (limits .entry))) (upFrom (pointAt (now (offsets .entry)) (now (numbers .entry))) 0 count) (pointAt (now (offsets .entry)) (now (numbers .entry)) 0)) ⌝ }
+    requires { ⌜ every (pointFew train (speedSetsNow sets codes values limits)) (upFrom (pointAt (now offsets) (now numbers)) 0 count) ≡ true ⌝ }
+    requires { ⌜ 2 *
+        (1 + 2 * total (pointCount train (speedSetsNow sets codes values limits)) (upFrom (pointAt (now offsets) (now numbers)) 0 count)) ≤
+        list.length (now speeds) ⌝ }
+    ensures { λ r. ⌜ Leaves (now (speeds .exit)) r
+        (spec.laidAnew train (own .0) (speedSetsBefore sets codes values limits)
+        (upFrom (pointAt (now (offsets .entry)) (now (numbers .entry))) 0 count) (pointAt (now (offsets .entry)) (now (numbers .entry)) 0)) ⌝ }
 {
     let begin = column::floats::get(offsets, 0);
     column::floats::zero_from(&mut *speeds, 0);
@@ -200,10 +207,14 @@ pub fn recalc_speeds(
     limits: &[f64],
     codes: &[u32],
     values: &[f64],
-    pool: &[f64],
-    regions: &[u32],
+    link_powers: &[f64],
+    link_districts: &[u32],
 ) -> PathAnswer
-    ensures { λ r. ⌜ _≡_ {A = Outcome} (left r (columns (now (offsets .exit)) (now (numbers .exit)) (now (grades .exit)) (now (curves .exit)) (now (speeds .exit)) (now (powers .exit)) (now (districts .exit)))) (spec.recalcOf train (tableOf (now (links .entry)) (now (lengths .entry)) (now (sets .entry)) (now (elevs .entry)) (now (headings .entry)) (now (limits .entry)) (now (codes .entry)) (now (values .entry)) (now (pool .entry)) (now (regions .entry))) p (columns (now (offsets .entry)) (now (numbers .entry)) (now (grades .entry)) (now (curves .entry)) (now (speeds .entry)) (now (powers .entry)) (now (districts .entry)))) ⌝ }
+    ensures { λ r. ⌜ _≡_ {A = Outcome}
+        (left r (columnsAfter offsets numbers grades curves speeds powers districts))
+        (spec.recalcOf train
+        (tableBefore links lengths sets elevs headings limits codes values «link_powers» «link_districts») p
+        (columnsBefore offsets numbers grades curves speeds powers districts)) ⌝ }
 {
     let answer = recalc_answer(
         p,
@@ -223,8 +234,8 @@ pub fn recalc_speeds(
         limits,
         codes,
         values,
-        pool,
-        regions,
+        link_powers,
+        link_districts,
     );
     if answer.number != 0 {
         return PathAnswer { answer, path: p };

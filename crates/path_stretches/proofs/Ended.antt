@@ -15,7 +15,7 @@ use Rattle.link.specs.Table.{Sample}
 use Rattle.path.specs.Records.{lastCoeff}
 use Rattle.path_stretches.specs.declared.stretch.Stretch.{Stretch}
 use Rattle.path_stretches.specs.Stretches.{stretchesFrom, stretches, recordCount, stretchCount, offsetAfter, netAfter, withCoefficient, layStretch, layStretches}
-use Rattle.path_stretches.proofs.Steps.{count-some}
+use Rattle.path_stretches.proofs.StretchSteps.{count-some}
 
 -- ---- the last record
 

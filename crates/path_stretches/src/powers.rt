@@ -27,18 +27,18 @@ fn placed_power(base: Length, l: CatPowerLimit) -> CatPowerLimit
 
 // Question 8 of `count` power limits from `first` on.
 pub fn powers_finite(
-    pool: &[f64],
-    regions: &[u32],
+    link_powers: &[f64],
+    link_districts: &[u32],
     first: usize,
     count: usize,
     base: Length,
 ) -> bool
     requires { ⌜ first + count < 2 ^ 40 ⌝ }
-    ensures { λ r. ⌜ r ≡ every (spec.powerFinite (base .0)) (upFrom (powerAt (now (pool .entry)) (now (regions .entry))) first count) ⌝ }
+    ensures { λ r. ⌜ r ≡ every (spec.powerFinite (base .0)) (upFrom (powerAt (now («link_powers» .entry)) (now («link_districts» .entry))) first count) ⌝ }
 {
     let mut i = first;
     while i < first + count {
-        let l = placed_power(base, power_limit_at(pool, regions, i));
+        let l = placed_power(base, power_limit_at(link_powers, link_districts, i));
         if !(ieee::is_finite(l.offset_start.0) & ieee::is_finite(l.offset_end.0)) {
             return false;
         }
@@ -52,8 +52,8 @@ pub fn lay_powers(
     powers: &mut [f64],
     districts: &mut [u32],
     m: usize,
-    pool: &[f64],
-    regions: &[u32],
+    link_powers: &[f64],
+    link_districts: &[u32],
     first: usize,
     count: usize,
     base: Length,
@@ -62,11 +62,13 @@ pub fn lay_powers(
     requires { ⌜ 3 * (m + count) ≤ list.length (now powers) ⌝ }
     requires { ⌜ m + count ≤ list.length (now districts) ⌝ }
     requires { ⌜ spec.HoldsPowers (now powers) (now districts) (powerLimits m (now powers) (now districts)) ⌝ }
-    ensures { λ _. ⌜ spec.HoldsPowers (now (powers .exit)) (now (districts .exit)) (powerLimits m (now (powers .entry)) (now (districts .entry)) ++ map (spec.placedPower (base .0)) (upFrom (powerAt (now (pool .entry)) (now (regions .entry))) first count)) ⌝ }
+    ensures { λ _. ⌜ spec.HoldsPowers (now (powers .exit)) (now (districts .exit))
+        (powerLimits m (now (powers .entry)) (now (districts .entry)) ++ map (spec.placedPower (base .0))
+        (upFrom (powerAt (now («link_powers» .entry)) (now («link_districts» .entry))) first count)) ⌝ }
 {
     let mut k = 0;
     while k < count {
-        let l = placed_power(base, power_limit_at(pool, regions, first + k));
+        let l = placed_power(base, power_limit_at(link_powers, link_districts, first + k));
         let t = Three(l.offset_start.0, l.offset_end.0, l.power_limit.0);
         column::floats::put_three(&mut *powers, m + k, t);
         column::words::set(&mut *districts, m + k, l.district_id);

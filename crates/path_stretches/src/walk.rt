@@ -73,7 +73,8 @@ pub fn walk_stretches(
     train: TrainParams,
 ) -> Reached
     requires { ⌜ first + count < 2 ^ 40 ⌝ }
-    ensures { λ r. ⌜ r ≡ spec.reached (base .0) (net .0) (spec.stretches curves train (base .0) (net .0) (length .0) (upFrom (sampleAt (now (pool .entry))) first count)) ⌝ }
+    ensures { λ r. ⌜ r ≡ spec.reached (base .0) (net .0)
+        (spec.stretches curves train (base .0) (net .0) (length .0) (upFrom (sampleAt (now (pool .entry))) first count)) ⌝ }
 {
     if count == 0 {
         let s = flat_stretch(base, net, length);
@@ -105,7 +106,9 @@ pub fn walk_stretches(
 fn lay_stretch(col: &mut [f64], m: usize, s: Stretch)
     requires { ⌜ 0 < m ⌝ }
     requires { ⌜ 3 * (m + 1) ≤ list.length (now col) ⌝ }
-    ensures { λ _. ⌜ now (col .exit) ≡ putRecord triple (putRecord triple (now (col .entry)) (m - 1) (spec.withCoefficient s (recordAt triple (now (col .entry)) (m - 1)))) m (resCoeff (s .offset .0) +0 (s .net .0)) ⌝ }
+    ensures { λ _. ⌜ now (col .exit) ≡ putRecord triple
+        (putRecord triple (now (col .entry)) (m - 1) (spec.withCoefficient s (recordAt triple (now (col .entry)) (m - 1)))) m
+        (resCoeff (s .offset .0) +0 (s .net .0)) ⌝ }
 {
     let k = 3 * m;
     let kept = if s.keeps { col[k - 2] } else { s.coefficient.0 };
@@ -131,7 +134,10 @@ pub fn lay_stretches(
     requires { ⌜ first + count < 2 ^ 40 ⌝ }
     requires { ⌜ 3 * (m + spec.stretchCount (upFrom (sampleAt (now pool)) first count)) ≤ list.length (now col) ⌝ }
     requires { ⌜ now col ≡ filled +0 (list.length (now col)) (flat triple (coeffs m (now col))) ⌝ }
-    ensures { λ r. ⌜ spec.Laid (now (col .exit)) r (list.length (now (col .entry))) (spec.layStretches (coeffs m (now (col .entry))) (spec.stretches curves train (base .0) (netOf (lastCoeff (coeffs m (now (col .entry))))) (length .0) (upFrom (sampleAt (now (pool .entry))) first count))) ⌝ }
+    ensures { λ r. ⌜ spec.Laid (now (col .exit)) r (list.length (now (col .entry)))
+        (spec.layStretches (coeffs m (now (col .entry)))
+        (spec.stretches curves train (base .0) (netOf (lastCoeff (coeffs m (now (col .entry))))) (length .0)
+        (upFrom (sampleAt (now (pool .entry))) first count))) ⌝ }
 {
     let mut net = coeff_at(&*col, m - 1).res_net.0;
     if count == 0 {

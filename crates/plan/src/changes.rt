@@ -60,7 +60,7 @@ fn clear(
     powers: &mut Powers,
     districts: &mut Districts,
 ) -> Step {
-    let r = path_trim::clear::clear(
+    let r = path_clear::clear::clear(
         p,
         x,
         &mut *offsets,
@@ -99,7 +99,7 @@ fn plain_change(
     districts: &mut Districts,
 ) -> Step {
     if kind == NEW {
-        return step_of(path_trim::new::new(
+        return step_of(path_ends::new::new(
             train,
             &mut *offsets,
             &mut *numbers,
@@ -124,7 +124,7 @@ fn plain_change(
         );
     }
     if kind == FINISH {
-        return step_of(path_trim::finish::finish(
+        return step_of(path_ends::finish::finish(
             p,
             &mut *offsets,
             &mut *numbers,
@@ -135,7 +135,7 @@ fn plain_change(
             &mut *districts,
         ));
     }
-    step_of(path_links::reindex::reindex(
+    step_of(path_reindex::reindex::reindex(
         p,
         list,
         &mut *offsets,
@@ -170,8 +170,8 @@ pub fn change(
     limits: &[f64],
     codes: &[u32],
     values: &[f64],
-    pool: &[f64],
-    regions: &[u32],
+    link_powers: &[f64],
+    link_districts: &[u32],
 ) -> Step {
     if kind == EXTEND {
         return step_of(path_extend::extend::extend(
@@ -193,8 +193,8 @@ pub fn change(
             limits,
             codes,
             values,
-            pool,
-            regions,
+            link_powers,
+            link_districts,
         ));
     }
     if kind == RECALCULATE {
@@ -216,8 +216,8 @@ pub fn change(
             limits,
             codes,
             values,
-            pool,
-            regions,
+            link_powers,
+            link_districts,
         ));
     }
     plain_change(

@@ -66,8 +66,8 @@ fn with_path(
     limits: &[f64],
     codes: &[u32],
     values: &[f64],
-    pool: &[f64],
-    regions: &[u32],
+    link_powers: &[f64],
+    link_districts: &[u32],
 ) {
     let mut offsets = [0.0f64; 1025];
     let mut numbers = [0u32; 4100];
@@ -99,8 +99,8 @@ fn with_path(
         limits,
         codes,
         values,
-        pool,
-        regions,
+        link_powers,
+        link_districts,
         &mut boards,
         &mut tags,
         &mut borders,
@@ -121,8 +121,8 @@ fn with_links(
     limits: &mut [f64; 24576],
     codes: &mut [u32; 16384],
     values: &mut [f64; 8192],
-    pool: &mut [f64; 3072],
-    regions: &mut [u32; 1024],
+    link_powers: &mut [f64; 3072],
+    link_districts: &mut [u32; 1024],
 ) {
     fill_table(
         text,
@@ -134,8 +134,8 @@ fn with_links(
         &mut *limits,
         &mut *codes,
         &mut *values,
-        &mut *pool,
-        &mut *regions,
+        &mut *link_powers,
+        &mut *link_districts,
     );
     let n = last_link(seen.links);
     with_path(
@@ -150,8 +150,8 @@ fn with_links(
         &*limits,
         &*codes,
         &*values,
-        &*pool,
-        &*regions,
+        &*link_powers,
+        &*link_districts,
     );
 }
 
@@ -165,8 +165,8 @@ pub fn with_table(text: &[u8], seen: Seen, svg: bool) {
     let mut limits = [0.0f64; 24576];
     let mut codes = [0u32; 16384];
     let mut values = [0.0f64; 8192];
-    let mut pool = [0.0f64; 3072];
-    let mut regions = [0u32; 1024];
+    let mut link_powers = [0.0f64; 3072];
+    let mut link_districts = [0u32; 1024];
     with_links(
         text,
         seen,
@@ -179,7 +179,7 @@ pub fn with_table(text: &[u8], seen: Seen, svg: bool) {
         &mut limits,
         &mut codes,
         &mut values,
-        &mut pool,
-        &mut regions,
+        &mut link_powers,
+        &mut link_districts,
     );
 }

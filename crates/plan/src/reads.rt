@@ -4,7 +4,7 @@ use link::train_params::TrainParams;
 use lookup::lin_search_hint::Dir;
 use path::path_tpc::Answer;
 use path::path_tpc::PathTpc;
-use path_links::link_records::link_range;
+use path_link_records::link_records::link_range;
 use path_posted::posted_speed::posted_speed;
 use resistance::strap::Strap;
 use resistance::strap::StrapAnswer;

@@ -74,7 +74,7 @@ fn locate(text: &[u8], above: &[usize], at: usize) {
 }
 
 // The answer to a list of trims, the counts of the path's record and those of the links that went.
-fn say_counts(r: path_trim::clear::ClearAnswer) {
+fn say_counts(r: path_clear::clear::ClearAnswer) {
     let o = r.outcome;
     let p = o.path;
     let dropped = r.dropped;
@@ -123,7 +123,7 @@ fn trim(
     powers: &mut [f64],
     districts: &mut [u32],
 ) {
-    let r = path_trims::clear_each::clear_each(
+    let r = path_clear::clear_each::clear_each(
         p,
         xs,
         &mut *offsets,

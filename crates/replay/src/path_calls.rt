@@ -29,7 +29,7 @@ use crate::words::held;
 use path::link_point::LinkPoint;
 use path::path_tpc::PathAnswer;
 use path::path_tpc::PathTpc;
-use path_links::link_records::link_range;
+use path_link_records::link_records::link_range;
 use show::say;
 use si::Length;
 use train::set_link_and_offset::with_link_and_offset;
@@ -56,8 +56,8 @@ fn on_table(
     limits: &[f64],
     codes: &[u32],
     values: &[f64],
-    pool: &[f64],
-    regions: &[u32],
+    link_powers: &[f64],
+    link_districts: &[u32],
 ) -> PathAnswer {
     if code == 0x4 {
         return path_extend::extend::extend(
@@ -79,8 +79,8 @@ fn on_table(
             limits,
             codes,
             values,
-            pool,
-            regions,
+            link_powers,
+            link_districts,
         );
     }
     path_speeds::recalc_speeds::recalc_speeds(
@@ -101,8 +101,8 @@ fn on_table(
         limits,
         codes,
         values,
-        pool,
-        regions,
+        link_powers,
+        link_districts,
     )
 }
 
@@ -132,8 +132,8 @@ fn cut_table(
     let limits = floats_of(w, table, 5, reals);
     let codes = numbers_of(w, table, 6, words);
     let values = floats_of(w, table, 7, reals);
-    let pool = floats_of(w, table, 8, reals);
-    let regions = numbers_of(w, table, 9, words);
+    let link_powers = floats_of(w, table, 8, reals);
+    let link_districts = numbers_of(w, table, 9, words);
     on_table(
         w,
         code,
@@ -155,8 +155,8 @@ fn cut_table(
         limits,
         codes,
         values,
-        pool,
-        regions,
+        link_powers,
+        link_districts,
     )
 }
 
@@ -212,7 +212,7 @@ fn renumbered(
 ) -> PathAnswer {
     let laid = numbers_at(w, at);
     let list = cut_numbers(&laid, held(w, at, 4096));
-    path_links::reindex::reindex(
+    path_reindex::reindex::reindex(
         p,
         list,
         &mut *offsets,
@@ -265,7 +265,7 @@ fn change(
     districts: &mut Districts,
 ) -> PathAnswer {
     match code {
-        0x3 => path_trim::new::new(
+        0x3 => path_ends::new::new(
             train_at(w, s.train),
             &mut *offsets,
             &mut *numbers,
@@ -275,7 +275,7 @@ fn change(
             &mut *powers,
             &mut *districts,
         ),
-        0x6 => path_trim::finish::finish(
+        0x6 => path_ends::finish::finish(
             p,
             &mut *offsets,
             &mut *numbers,
@@ -386,7 +386,7 @@ fn clear(
     powers: &mut Powers,
     districts: &mut Districts,
 ) -> PathTpc {
-    let r = path_trim::clear::clear(
+    let r = path_clear::clear::clear(
         p,
         x,
         &mut *offsets,

@@ -15,7 +15,7 @@ use Rattle.lookup.specs.declared.path_res_coeff.PathResCoeff.{PathResCoeff}
 use Rattle.lookup.specs.Coeff.{coeffs, coeffAt, standsAt, coefficientOf, resVal, coeffsFinite}
 use Rattle.lookup.specs.CalcIdx.{Indexed, indexed, findIn, listSound}
 use Rattle.lookup.proofs.Coeffs.{value-way}
-use Rattle.lookup.proofs.Steps.{sound-known}
+use Rattle.lookup.proofs.SearchSteps.{sound-known}
 use Rattle.lookup.proofs.Place.{found-below}
 use Rattle.link.proofs.Known.{and-both}
 use Rattle.path.specs.declared.path_tpc.Answer.{Answer}

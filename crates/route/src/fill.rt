@@ -165,8 +165,8 @@ fn put_in_pools(
     limits: &mut [f64],
     codes: &mut [u32],
     values: &mut [f64],
-    pool: &mut [f64],
-    regions: &mut [u32],
+    link_powers: &mut [f64],
+    link_districts: &mut [u32],
 ) {
     if kind == ELEV {
         column::floats::put_two(&mut *elevs, h.elevs as usize, pair_at(text, at));
@@ -185,8 +185,8 @@ fn put_in_pools(
         column::floats::set(&mut *values, k, float_at(text, at, 3));
     } else if kind == POWER {
         let k = h.powers as usize;
-        column::floats::put_three(&mut *pool, k, triple_at(text, at));
-        column::words::set(&mut *regions, k, count_at(text, at, 4));
+        column::floats::put_three(&mut *link_powers, k, triple_at(text, at));
+        column::words::set(&mut *link_districts, k, count_at(text, at, 4));
     }
 }
 
@@ -234,8 +234,8 @@ pub fn fill_table(
     limits: &mut [f64],
     codes: &mut [u32],
     values: &mut [f64],
-    pool: &mut [f64],
-    regions: &mut [u32],
+    link_powers: &mut [f64],
+    link_districts: &mut [u32],
 ) {
     let mut h = nowhere();
     let mut at = 0;
@@ -253,8 +253,8 @@ pub fn fill_table(
             &mut *limits,
             &mut *codes,
             &mut *values,
-            &mut *pool,
-            &mut *regions,
+            &mut *link_powers,
+            &mut *link_districts,
         );
         h = leave(kind, h);
         at = next_line(text, at);

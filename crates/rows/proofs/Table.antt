@@ -15,7 +15,7 @@ use Rattle.link.specs.Lists as lists
 use Rattle.path.specs.Records.{pathOf}
 use Rattle.path.specs.Answers.{inTurn, outcome}
 use Rattle.path.specs.Sound.{totals, pathAnswer}
-use Rattle.path_trim.specs.Clear.{clearOf}
+use Rattle.path_clear.specs.Clear.{clearOf}
 use Rattle.rows.specs.Rows.{rows}
 use Rattle.rows.specs.Right.{every}
 

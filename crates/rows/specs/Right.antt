@@ -16,7 +16,7 @@ use Rattle.path.specs.declared.path_tpc.PathAnswer.{PathAnswer}
 use Rattle.path.specs.declared.link_point.LinkPoint.{LinkPoint}
 use Rattle.path.specs.Records.{Columns, columns, offsetOf}
 use Rattle.path.specs.Answers as answers
-use Rattle.path_trim.specs.Clear.{Cleared, clearOf}
+use Rattle.path_clear.specs.Clear.{Cleared, clearOf}
 use Rattle.rows.specs.Rows.{m, Lent, Row, lay, clear, find}
 
 -- the same numbers

@@ -7,7 +7,7 @@ use lookup::lin_search_hint::Found;
 use path::link_point::LinkPoint;
 use path::path_tpc::Answer;
 use path::path_tpc::PathTpc;
-use path_trim::clear::clear;
+use path_clear::clear::clear;
 use show::count;
 use show::number;
 use show::say;

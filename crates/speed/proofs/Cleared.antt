@@ -13,8 +13,8 @@ use Rattle.speed.specs.Points.{Point, nowhere, offsetAt, setOffset}
 use Rattle.speed.specs.Column.{points}
 use Rattle.speed.specs.Insert.{firstFrom}
 use Rattle.speed.specs.Clear.{isAt, moveTo, clearFrom, clearPoints}
-use Rattle.speed.proofs.Steps.{first-le}
-use Rattle.speed.proofs.Held.{length-points}
+use Rattle.speed.proofs.InsertSteps.{first-le}
+use Rattle.speed.proofs.PointColumn.{length-points}
 
 -- ---- the first point that stays
 

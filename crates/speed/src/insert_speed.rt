@@ -155,7 +155,8 @@ fn append_change(col: &mut [f64], n: usize, l: SpeedLimit, u: Velocity, w: Veloc
     requires { ⌜ 0 < n ⌝ }
     requires { ⌜ 2 * (n + 2) ≤ length (now col) ⌝ }
     requires { ⌜ Holds (now col) (points n (now col)) ⌝ }
-    ensures { λ r. ⌜ Leaves (now (col .exit)) r (appendChange (n - 1) (l .«offset_start» .0) (l .«offset_end» .0) (u .0) (w .0) (points n (now (col .entry)))) ⌝ }
+    ensures { λ r. ⌜ Leaves (now (col .exit)) r
+        (appendChange (n - 1) (l .«offset_start» .0) (l .«offset_end» .0) (u .0) (w .0) (points n (now (col .entry)))) ⌝ }
 {
     let s = l.offset_start;
     let e = l.offset_end;

@@ -18,7 +18,7 @@ use Rattle.speed.specs.Posted.{passed, posted, Sorted}
 use Rattle.speed.proofs.Reached.{passes, not-passed}
 use Rattle.speed_laws.specs.Words.{covers}
 use Rattle.speed_laws.proofs.Changes.{Change, none, next, then, enter, lower, out, covers-from, covers-to, Laid, laid-next, low-already}
-use Rattle.speed_laws.proofs.Front.{less-one, append-front}
+use Rattle.speed_laws.proofs.PointInFront.{less-one, append-front}
 
 module _ (s e v : Float) (order : T (Ieee.le s e)) where
   at-s : (q : Point) → T (Ieee.le (q .offset) s) → Ieee.lt (q .offset) s ≡ false → T (Ieee.le s (q .offset))

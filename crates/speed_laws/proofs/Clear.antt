@@ -17,7 +17,7 @@ use Rattle.speed.specs.Clear.{isAt, moveTo, clearFrom, clearPoints}
 use Rattle.speed.specs.Posted.{passed, posted, SortedFrom, Sorted}
 use Rattle.speed.proofs.Reached.{passes}
 use Rattle.speed_laws.specs.Words.{Every}
-use Rattle.speed_laws.proofs.Front.{less-one}
+use Rattle.speed_laws.proofs.PointInFront.{less-one}
 use Rattle.speed_laws.proofs.Lay.{from-le}
 
 every-drop : (O W : Float → Type 0) (k : ℕ) (ps : List Point) → Every O W ps → Every O W (drop k ps)

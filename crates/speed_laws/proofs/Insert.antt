@@ -18,7 +18,7 @@ use Rattle.ieee.proofs.Speed.{minSpeed-le-l, minSpeed-le-r, minSpeed-is, minSpe
 use Rattle.speed.specs.Points.{Point, offsetAt}
 use Rattle.speed.specs.Insert.{insertSpeed}
 use Rattle.speed.specs.Posted.{passed, posted, SortedFrom, Sorted}
-use Rattle.speed.proofs.Steps.{insert-append, insert-lay, first-below}
+use Rattle.speed.proofs.InsertSteps.{insert-append, insert-lay, first-below}
 use Rattle.speed.proofs.Reached.{passes, sorted-of}
 use Rattle.speed_laws.specs.Words.{covers, Every, Finite}
 use Rattle.speed_laws.proofs.Changes.{Near, change-order, change-every, change-near, Laid}

@@ -16,7 +16,7 @@ use Rattle.ieee.proofs.Order.{of-true}
 use Rattle.column.specs.Entries.{insertAt, removeAt}
 use Rattle.speed.specs.Points.{Point, point, offsetAt, speedAt, setSpeed, setOffset, repeats}
 use Rattle.speed.specs.Insert.{dropRepeat, merge, nextIndex, nextPoints, ends, layEnd, starts, layStart, layLimit, appendChange, appendLimit, insertSpeed, firstFrom, lastFrom}
-use Rattle.speed.proofs.Steps.{length-inserted, start-after}
+use Rattle.speed.proofs.InsertSteps.{length-inserted, start-after}
 use Rattle.speed_laws.proofs.Insert.{first-some}
 
 -- ---- the first offset, change by change

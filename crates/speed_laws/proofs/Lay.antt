@@ -21,11 +21,11 @@ use Rattle.column.specs.Entries.{insertAt}
 use Rattle.speed.specs.Points.{Point, point, nowhere, offsetAt, speedAt}
 use Rattle.speed.specs.Insert.{dropRepeat, merge, firstFrom, lastFrom, ends, layEnd, layStart, layLimit}
 use Rattle.speed.specs.Posted.{passed, posted, SortedFrom, Sorted}
-use Rattle.speed.proofs.Steps.{length-inserted, last-le, start-kept, limit-laid}
+use Rattle.speed.proofs.InsertSteps.{length-inserted, last-le, start-kept, limit-laid}
 use Rattle.speed.proofs.Reached.{passes, not-passed, reaches, ahead, only, alike}
 use Rattle.speed_laws.specs.Words.{covers}
 use Rattle.speed_laws.proofs.Changes.{Change, none, next, then, enter, lower, change-order, covers-from, covers-to, Laid, laid-next, low-already}
-use Rattle.speed_laws.proofs.Front.{less-one, end-front, start-front, last-front}
+use Rattle.speed_laws.proofs.PointInFront.{less-one, end-front, start-front, last-front}
 use Rattle.speed_laws.proofs.Merge.{merged, merged-met}
 
 -- ---- the points after e

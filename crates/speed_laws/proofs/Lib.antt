@@ -1,6 +1,6 @@
 -- The laws of the crate `speed_laws`.
 pub mod Changes
-pub mod Front
+pub mod PointInFront
 pub mod Merge
 pub mod Lay
 pub mod Append

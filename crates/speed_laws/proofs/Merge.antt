@@ -17,7 +17,7 @@ use Rattle.speed.specs.Insert.{merge}
 use Rattle.speed.specs.Posted.{passed, posted, SortedFrom}
 use Rattle.speed.proofs.Reached.{reaches, only, alike}
 use Rattle.speed_laws.proofs.Changes.{lowered, Change, none, next, then, lower, out, past, change-met}
-use Rattle.speed_laws.proofs.Front.{merge-front}
+use Rattle.speed_laws.proofs.PointInFront.{merge-front}
 
 merge-one : (v : Float) (k : ℕ) (q r : Point) (rs : List Point) → merge v (suc k) 1 (q ∷ r ∷ rs) ≡ cond (Ieee.eq (q .speed) (minSpeed (r .speed) v)) (merge v k 1 (q ∷ rs)) (q ∷ merge v k 1 (lowered v r ∷ rs))
 unfolding merge

@@ -9,7 +9,7 @@ use lib.Ieee as Ieee
 use lib.Ieee.{Float}
 use Rattle.ieee.specs.Number.{+0}
 use Rattle.lookup.specs.Search.{lastNotAfter}
-use Rattle.lookup.proofs.Steps.{backward-pass, backward-stop, backward-first}
+use Rattle.lookup.proofs.SearchSteps.{backward-pass, backward-stop, backward-first}
 use Rattle.path.specs.declared.link_point.LinkPoint.{LinkPoint}
 use Rattle.path.specs.Records.{offsetOf, pointAt, linkPoints, noLinkPoint, linkPointAt}
 use Rattle.path.proofs.LinkPoints.{length-links, link-at}

@@ -12,7 +12,7 @@ ghost use mathlib.Core.Path.{_≡_};
 ghost use mathlib.Core.Bool.{cond, false};
 ghost use Prim.Native.Nat.{_<_};
 ghost use lib.Ieee.Scale.{finite};
-ghost use Rattle.path.specs.Records.{columns, linkPoints};
+ghost use Rattle.path.specs.Records.{columnsBefore, linkPoints};
 ghost use Rattle.path.specs.Answers.{ask};
 ghost use Rattle.train.specs.Locate as spec;
 
@@ -63,7 +63,9 @@ fn located_as_before(s: TrainState, answer: Answer) -> Located
 // The three link fields among n link points, once questions 1, 2 and 10 are answered with yes: question 8, and then the fields.
 fn located_among(s: TrainState, offsets: &[f64], numbers: &[u32], n: usize) -> Located
     requires { ⌜ 0 < n ⌝ }
-    ensures { λ r. ⌜ r ≡ cond (finite (spec.offsetInLink s (linkPoints n (now (offsets .entry)) (now (numbers .entry))))) (spec.locatedAt s (linkPoints n (now (offsets .entry)) (now (numbers .entry)))) (spec.locatedAsBefore s (ask 8 false)) ⌝ }
+    ensures { λ r. ⌜ r ≡ cond
+        (finite (spec.offsetInLink s (linkPoints n (now (offsets .entry)) (now (numbers .entry)))))
+        (spec.locatedAt s (linkPoints n (now (offsets .entry)) (now (numbers .entry)))) (spec.locatedAsBefore s (ask 8 false)) ⌝ }
 {
     let front = point_behind(offsets, numbers, n, Length(s.offset.0));
     let in_link = s.offset.0 - front.offset.0;
@@ -91,7 +93,7 @@ pub fn locate(
     powers: &[f64],
     districts: &[u32],
 ) -> Located
-    ensures { λ r. ⌜ r ≡ spec.locateOf state path (columns (now (offsets .entry)) (now (numbers .entry)) (now (grades .entry)) (now (curves .entry)) (now (speeds .entry)) (now (powers .entry)) (now (districts .entry))) ⌝ }
+    ensures { λ r. ⌜ r ≡ spec.locateOf state path (columnsBefore offsets numbers grades curves speeds powers districts) ⌝ }
 {
     let finite = state_finite(state);
     let first = path_answer(

@@ -4,7 +4,7 @@ use crate::train_state::TrainState;
 use path::path_tpc::Answer;
 use path::path_tpc::PathTpc;
 ghost use mathlib.Core.Path.{_≡_};
-ghost use Rattle.path.specs.Records.{columns};
+ghost use Rattle.path.specs.Records.{columnsBefore};
 ghost use Rattle.train.specs.Locate.{locateOf, placed};
 
 // A position, and the answer of the call that handed it back.
@@ -26,8 +26,9 @@ pub fn set_link_and_offset(
     powers: &[f64],
     districts: &[u32],
 ) -> Answer
-    ensures { λ r. ⌜ (r ≡ locateOf (now (state .entry)) path (columns (now (offsets .entry)) (now (numbers .entry)) (now (grades .entry)) (now (curves .entry)) (now (speeds .entry)) (now (powers .entry)) (now (districts .entry))) .answer)
-        × (now (state .exit) ≡ placed (now (state .entry)) (locateOf (now (state .entry)) path (columns (now (offsets .entry)) (now (numbers .entry)) (now (grades .entry)) (now (curves .entry)) (now (speeds .entry)) (now (powers .entry)) (now (districts .entry))))) ⌝ }
+    ensures { λ r. ⌜ (r ≡ locateOf (now (state .entry)) path (columnsBefore offsets numbers grades curves speeds powers districts) .answer)
+        × (now (state .exit) ≡ placed (now (state .entry))
+        (locateOf (now (state .entry)) path (columnsBefore offsets numbers grades curves speeds powers districts))) ⌝ }
 {
     let s = *state;
     let r = locate(
@@ -59,8 +60,8 @@ pub fn with_link_and_offset(
     powers: &[f64],
     districts: &[u32],
 ) -> StateAnswer
-    ensures { λ r. ⌜ (r .answer ≡ locateOf state path (columns (now (offsets .entry)) (now (numbers .entry)) (now (grades .entry)) (now (curves .entry)) (now (speeds .entry)) (now (powers .entry)) (now (districts .entry))) .answer)
-        × (r .state ≡ placed state (locateOf state path (columns (now (offsets .entry)) (now (numbers .entry)) (now (grades .entry)) (now (curves .entry)) (now (speeds .entry)) (now (powers .entry)) (now (districts .entry))))) ⌝ }
+    ensures { λ r. ⌜ (r .answer ≡ locateOf state path (columnsBefore offsets numbers grades curves speeds powers districts) .answer)
+        × (r .state ≡ placed state (locateOf state path (columnsBefore offsets numbers grades curves speeds powers districts))) ⌝ }
 {
     let answer = set_link_and_offset(
         &mut state,

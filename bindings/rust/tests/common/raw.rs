@@ -26,8 +26,8 @@ pub struct Table {
     pub limits: Vec<f64>,
     pub codes: Vec<u32>,
     pub values: Vec<f64>,
-    pub pool: Vec<f64>,
-    pub regions: Vec<u32>,
+    pub link_powers: Vec<f64>,
+    pub link_districts: Vec<u32>,
 }
 
 impl Table {
@@ -69,7 +69,7 @@ macro_rules! columns_and_table {
                 $t.sets.as_ptr(), $t.sets.len(), $t.elevs.as_ptr(), $t.elevs.len(),
                 $t.headings.as_ptr(), $t.headings.len(), $t.limits.as_ptr(), $t.limits.len(),
                 $t.codes.as_ptr(), $t.codes.len(), $t.values.as_ptr(), $t.values.len(),
-                $t.pool.as_ptr(), $t.pool.len(), $t.regions.as_ptr(), $t.regions.len())
+                $t.link_powers.as_ptr(), $t.link_powers.len(), $t.link_districts.as_ptr(), $t.link_districts.len())
         }
     };
 }

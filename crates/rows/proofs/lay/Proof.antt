@@ -2,7 +2,7 @@
 use Prim.Native.Nat.{_*_, _≤_}
 use native.Mathlib.Omega.{arith}
 use lib.ListN.{length}
-use Rattle.speed.proofs.Held.{next-zeroed}
+use Rattle.speed.proofs.PointColumn.{next-zeroed}
 use borrow.Author.Needs.{needs}
 use Rattle.rows.proofs.lay.Statement.{statement}
 use Rattle.rows.proofs.lay.Tie as tie

@@ -124,7 +124,7 @@ pub fn used<'a>(p: &PathTpc, c: &'a Cols) -> [&'a [f64]; 5] {
 
 /// The f64 columns of a table.
 pub fn numbers(f: &Flat) -> [&[f64]; 6] {
-    [&f.lengths, &f.elevs, &f.headings, &f.limits, &f.values, &f.pool]
+    [&f.lengths, &f.elevs, &f.headings, &f.limits, &f.values, &f.link_powers]
 }
 
 /// The f64 columns of a path to their ends, records or not.

@@ -30,7 +30,7 @@ macro_rules! with_columns {
             $f.links.as_ptr(), $f.links.len(), $f.lengths.as_ptr(), $f.lengths.len(), $f.sets.as_ptr(), $f.sets.len(),
             $f.elevs.as_ptr(), $f.elevs.len(), $f.headings.as_ptr(), $f.headings.len(),
             $f.limits.as_ptr(), $f.limits.len(), $f.codes.as_ptr(), $f.codes.len(), $f.values.as_ptr(), $f.values.len(),
-            $f.pool.as_ptr(), $f.pool.len(), $f.regions.as_ptr(), $f.regions.len()) }
+            $f.link_powers.as_ptr(), $f.link_powers.len(), $f.link_districts.as_ptr(), $f.link_districts.len()) }
     };
 }
 

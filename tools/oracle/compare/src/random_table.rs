@@ -227,8 +227,8 @@ fn spoil_columns(r: &mut Rng, f: &mut Flat) {
             _ => cut(r, &mut f.headings),
         },
         8 => match r.to(2) {
-            0 => cut(r, &mut f.pool),
-            _ => cut(r, &mut f.regions),
+            0 => cut(r, &mut f.link_powers),
+            _ => cut(r, &mut f.link_districts),
         },
         _ => match r.to(3) {
             0 => cut(r, &mut f.links),

@@ -35,8 +35,8 @@ pub struct Flat {
     pub limits: Vec<f64>,
     pub codes: Vec<u32>,
     pub values: Vec<f64>,
-    pub pool: Vec<f64>,
-    pub regions: Vec<u32>,
+    pub link_powers: Vec<f64>,
+    pub link_districts: Vec<u32>,
 }
 
 /// A link as the columns give it, and whether its ranges lie in their pools and its flags are known.
@@ -67,12 +67,12 @@ impl Flat {
         self.limits.extend([1.0, 2.0, 3.0]);
         self.codes.extend([9, 9]);
         self.values.push(1.0);
-        self.pool.extend([1.0, 2.0, 3.0]);
-        self.regions.push(9);
+        self.link_powers.extend([1.0, 2.0, 3.0]);
+        self.link_districts.push(9);
     }
     fn push(&mut self, l: &Lk) {
         self.links.extend([l.own, l.next, l.next_alt, l.prev, l.prev_alt]);
-        let first = [self.elevs.len() / 2, self.headings.len() / 2, self.regions.len()];
+        let first = [self.elevs.len() / 2, self.headings.len() / 2, self.link_districts.len()];
         for (from, n) in first.iter().zip([l.elevs.len(), l.heads.len(), l.powers.len()]) {
             self.links.extend([*from as u32, n as u32]);
         }
@@ -80,8 +80,8 @@ impl Flat {
         self.elevs.extend(l.elevs.iter().flatten());
         self.headings.extend(l.heads.iter().flatten());
         for (p, d) in &l.powers {
-            self.pool.extend(p);
-            self.regions.push(*d);
+            self.link_powers.extend(p);
+            self.link_districts.push(*d);
         }
         for s in &l.sets {
             self.push_set(s.as_ref());
@@ -116,12 +116,12 @@ impl Flat {
         let [elevs, heads, powers] = [
             e.cut(n[5], n[6], self.elevs.len() / 2),
             e.cut(n[7], n[8], self.headings.len() / 2),
-            e.cut(n[9], n[10], (self.pool.len() / 3).min(self.regions.len())),
+            e.cut(n[9], n[10], (self.link_powers.len() / 3).min(self.link_districts.len())),
         ];
         e.link = Lk { own: n[0], next: n[1], next_alt: n[2], prev: n[3], prev_alt: n[4], length: self.lengths[i], ..Default::default() };
         e.link.elevs = elevs.map(|k| [self.elevs[2 * k], self.elevs[2 * k + 1]]).collect();
         e.link.heads = heads.map(|k| [self.headings[2 * k], self.headings[2 * k + 1]]).collect();
-        e.link.powers = powers.map(|k| ([0, 1, 2].map(|j| self.pool[3 * k + j]), self.regions[k])).collect();
+        e.link.powers = powers.map(|k| ([0, 1, 2].map(|j| self.link_powers[3 * k + j]), self.link_districts[k])).collect();
         for k in 0..8 {
             e.link.sets[k] = self.set(48 * i + 6 * k, &mut e);
         }

@@ -2,7 +2,7 @@
 use mathlib.Core.Path.{ap, _∙_}
 use Rattle.path.specs.Records.{columns}
 use Rattle.link.specs.declared.train_params.TrainParams.{TrainParams}
-use Rattle.path_trim.specs.New.{newOf}
+use Rattle.path_ends.specs.New.{newOf}
 use borrow.Author.Needs.{needs}
 use Rattle.capi.proofs.path_calls.mochaspit_new.Statement.{statement}
 use Rattle.capi.proofs.path_calls.mochaspit_new.Tie as tie

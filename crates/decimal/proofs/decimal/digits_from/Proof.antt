@@ -7,7 +7,7 @@ use lib.ListN.{length, drop, getD}
 use Rattle.decimal.specs.Decimal.{digitsFrom, digitsOf}
 use Rattle.decimal.specs.Known.{Known}
 use Rattle.decimal.specs.declared.decimal.Digits.{Digits}
-use Rattle.decimal.proofs.Steps.{known-start, known-step}
+use Rattle.decimal.proofs.DigitSteps.{known-start, known-step}
 use Rattle.decimal.proofs.Texts.{carried-next, carried-end, digits-carried}
 use Rattle.decimal.proofs.decimal.digits_from.Statement.{statement}
 use Rattle.decimal.proofs.decimal.digits_from.Tie as tie

@@ -4,7 +4,7 @@ use borrow.Author.Needs.{needs}
 use lib.ListN.{drop}
 use Rattle.decimal.specs.Decimal.{start}
 use Rattle.decimal.specs.Known.{Known}
-use Rattle.decimal.proofs.Steps.{known-start, known-from}
+use Rattle.decimal.proofs.DigitSteps.{known-start, known-from}
 use Rattle.decimal.proofs.Answers.{decimal-empty, decimal-minus, decimal-plus}
 use Rattle.decimal.proofs.decimal.read_decimal.Statement.{statement}
 use Rattle.decimal.proofs.decimal.read_decimal.Tie as tie

@@ -2,7 +2,7 @@
 use mathlib.Core.Path.{sym, _∙_}
 use borrow.Author.Needs.{needs}
 use borrow.Author.Tests.{not-true, not-false}
-use Rattle.decimal.proofs.Steps.{step-bad, step-digit, step-other}
+use Rattle.decimal.proofs.DigitSteps.{step-bad, step-digit, step-other}
 use Rattle.decimal.proofs.decimal.step.Statement.{statement}
 use Rattle.decimal.proofs.decimal.step.Tie as tie
 

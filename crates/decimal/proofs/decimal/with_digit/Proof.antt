@@ -2,7 +2,7 @@
 use mathlib.Core.Logic.{⊎-elim}
 use borrow.Author.Needs.{needs}
 use Rattle.decimal.proofs.Bytes.{between}
-use Rattle.decimal.proofs.Steps.{with-digit-after, with-digit-before}
+use Rattle.decimal.proofs.DigitSteps.{with-digit-after, with-digit-before}
 use Rattle.decimal.proofs.decimal.with_digit.Statement.{statement}
 use Rattle.decimal.proofs.decimal.with_digit.Tie as tie
 

@@ -1,7 +1,7 @@
 -- `calc_idx`: question by question.
 use mathlib.Core.Path.{sym, _∙_}
 use borrow.Author.Tests.{not-true, not-false}
-use Rattle.lookup.proofs.Steps.{asks-offset, asks-numbers, asks-sound, asks-search, sound-known}
+use Rattle.lookup.proofs.SearchSteps.{asks-offset, asks-numbers, asks-sound, asks-search, sound-known}
 use borrow.Author.Needs.{needs}
 use Rattle.lookup.proofs.calc_idx.calc_idx.Statement.{statement}
 use Rattle.lookup.proofs.calc_idx.calc_idx.Tie as tie

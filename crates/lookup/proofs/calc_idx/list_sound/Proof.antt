@@ -1,7 +1,7 @@
 -- `list_sound`: question 2, test by test.
 use mathlib.Core.Path.{sym}
 use native.Mathlib.Omega.{arith}
-use Rattle.lookup.proofs.Steps.{sound-none, sound-short, sound-held}
+use Rattle.lookup.proofs.SearchSteps.{sound-none, sound-short, sound-held}
 use Rattle.lookup.proofs.calc_idx.list_sound.Statement.{statement}
 use Rattle.lookup.proofs.calc_idx.list_sound.Tie as tie
 

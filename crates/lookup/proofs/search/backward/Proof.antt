@@ -7,7 +7,7 @@ use Rattle.column.proofs.Bridge.{length-records}
 use Rattle.lookup.specs.Coeff.{triple, coeffs, offsetAt}
 use Rattle.lookup.proofs.Coeffs.{triple-lawful}
 use Rattle.lookup.specs.Search.{backwards}
-use Rattle.lookup.proofs.Steps.{backward-pass, backward-stop, backward-first}
+use Rattle.lookup.proofs.SearchSteps.{backward-pass, backward-stop, backward-first}
 use Rattle.lookup.proofs.search.backward.Statement.{statement}
 use Rattle.lookup.proofs.search.backward.Tie as tie
 

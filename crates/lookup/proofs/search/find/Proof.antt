@@ -1,6 +1,6 @@
 -- `find`: by the direction.
 use mathlib.Core.Path.{_∙_}
-use Rattle.lookup.proofs.Steps.{unknown-forward}
+use Rattle.lookup.proofs.SearchSteps.{unknown-forward}
 use borrow.Author.Needs.{needs}
 use Rattle.lookup.proofs.search.find.Statement.{statement}
 use Rattle.lookup.proofs.search.find.Tie as tie

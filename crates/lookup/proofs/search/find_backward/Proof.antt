@@ -7,7 +7,7 @@ use Rattle.column.proofs.Bridge.{length-records}
 use Rattle.lookup.specs.CalcIdx.{doneAt}
 use Rattle.lookup.specs.Coeff.{triple, coeffs}
 use Rattle.lookup.proofs.Coeffs.{triple-lawful}
-use Rattle.lookup.proofs.Steps.{backward-found, backward-hint, backward-range}
+use Rattle.lookup.proofs.SearchSteps.{backward-found, backward-hint, backward-range}
 use borrow.Author.Needs.{needs}
 use Rattle.lookup.proofs.search.find_backward.Statement.{statement}
 use Rattle.lookup.proofs.search.find_backward.Tie as tie

@@ -6,7 +6,7 @@ use Rattle.column.proofs.Bridge.{length-records}
 use Rattle.lookup.specs.CalcIdx.{doneAt}
 use Rattle.lookup.specs.Coeff.{triple, coeffs}
 use Rattle.lookup.proofs.Coeffs.{triple-lawful}
-use Rattle.lookup.proofs.Steps.{forward-found, forward-hint, forward-range}
+use Rattle.lookup.proofs.SearchSteps.{forward-found, forward-hint, forward-range}
 use borrow.Author.Needs.{needs}
 use Rattle.lookup.proofs.search.find_forward.Statement.{statement}
 use Rattle.lookup.proofs.search.find_forward.Tie as tie

@@ -8,7 +8,7 @@ use Rattle.column.proofs.Bridge.{length-records}
 use Rattle.lookup.specs.Coeff.{triple, coeffs}
 use Rattle.lookup.proofs.Coeffs.{triple-lawful}
 use Rattle.lookup.specs.Search.{forwards}
-use Rattle.lookup.proofs.Steps.{forward-pass, forward-stop, forward-end}
+use Rattle.lookup.proofs.SearchSteps.{forward-pass, forward-stop, forward-end}
 use Rattle.lookup.proofs.search.forward.Statement.{statement}
 use Rattle.lookup.proofs.search.forward.Tie as tie
 

@@ -25,7 +25,7 @@ returns : tie.Need-returns
 returns c =
     let a = c .before .before .before .before .before .before .before .before .before .before .before .before .before .before .before .before .before .before .before .before .before .before .args in
     let l = columns (a .offsets .now) (a .numbers .now) (a .grades .now) (a .curves .now) (a .speeds .now) (a .powers .now) (a .districts .now) in
-    let t = tableOf (a .links .now) (a .lengths .now) (a .sets .now) (a .elevs .now) (a .headings .now) (a .limits .now) (a .codes .now) (a .values .now) (a .pool .now) (a .regions .now) in
+    let t = tableOf (a .links .now) (a .lengths .now) (a .sets .now) (a .elevs .now) (a .headings .now) (a .limits .now) (a .codes .now) (a .values .now) (a .link-powers .now) (a .link-districts .now) in
     let ns = a .list .now in
     sym (extend-first (a .train) t ns (a .p) l (c .before .before .path-answer .ensures ∙ ap (λ (b : Bool). pathAnswer b (a .p) l) (c .before .before .before .train-finite .ensures)) (c .if1 .taken))
 
@@ -36,7 +36,7 @@ returns-2 : tie.Need-returns-2
 returns-2 c =
     let a = c .before .before .before .before .before .before .before .before .before .before .before .before .before .before .before .before .before .before .before .before .before .before .before .before .args in
     let l = columns (a .offsets .now) (a .numbers .now) (a .grades .now) (a .curves .now) (a .speeds .now) (a .powers .now) (a .districts .now) in
-    let t = tableOf (a .links .now) (a .lengths .now) (a .sets .now) (a .elevs .now) (a .headings .now) (a .limits .now) (a .codes .now) (a .values .now) (a .pool .now) (a .regions .now) in
+    let t = tableOf (a .links .now) (a .lengths .now) (a .sets .now) (a .elevs .now) (a .headings .now) (a .limits .now) (a .codes .now) (a .values .now) (a .link-powers .now) (a .link-districts .now) in
     let ns = a .list .now in
     c .asked .ensures ∙ sym (extend-3 (a .train) t ns (a .p) l (c .before .before .before .before .path-answer .ensures ∙ ap (λ (b : Bool). pathAnswer b (a .p) l) (c .before .before .before .before .before .train-finite .ensures)) (c .before .before .if1 .left) (ap not (c .before .if2 .taken)))
 
@@ -50,7 +50,7 @@ returns-3 : tie.Need-returns-3
 returns-3 c =
     let a = c .before .before .before .before .before .before .before .before .before .before .before .before .before .before .before .before .before .before .before .before .before .before .before .before .before .before .before .args in
     let l = columns (a .offsets .now) (a .numbers .now) (a .grades .now) (a .curves .now) (a .speeds .now) (a .powers .now) (a .districts .now) in
-    let t = tableOf (a .links .now) (a .lengths .now) (a .sets .now) (a .elevs .now) (a .headings .now) (a .limits .now) (a .codes .now) (a .values .now) (a .pool .now) (a .regions .now) in
+    let t = tableOf (a .links .now) (a .lengths .now) (a .sets .now) (a .elevs .now) (a .headings .now) (a .limits .now) (a .codes .now) (a .values .now) (a .link-powers .now) (a .link-districts .now) in
     let ns = a .list .now in
     sym (extend-named (a .train) t ns (a .p) l (c .before .before .before .before .before .before .before .path-answer .ensures ∙ ap (λ (b : Bool). pathAnswer b (a .p) l) (c .before .before .before .before .before .before .before .before .train-finite .ensures)) (c .before .before .before .before .before .if1 .left) (ap not (c .before .before .before .before .if2 .left)) (c .before .before .links-answer .ensures ∙ ap₂ (λ (j : Judged) (ms : List ℕ). linksAnswer t (a .train .«train_type») j ms) (c .before .before .before .follow-question .ensures) (numbers-plain ns)) (c .if3 .taken))
 
@@ -58,7 +58,7 @@ sums-answer-requires : tie.Need-sums-answer-requires
 sums-answer-requires c κs =
     let a = c .before .before .before .before .before .before .before .before .before .before .before .before .before .before .before .before .before .before .before .before .before .before .before .before .before .before .before .args in
     let l = columns (a .offsets .now) (a .numbers .now) (a .grades .now) (a .curves .now) (a .speeds .now) (a .powers .now) (a .districts .now) in
-    let t = tableOf (a .links .now) (a .lengths .now) (a .sets .now) (a .elevs .now) (a .headings .now) (a .limits .now) (a .codes .now) (a .values .now) (a .pool .now) (a .regions .now) in
+    let t = tableOf (a .links .now) (a .lengths .now) (a .sets .now) (a .elevs .now) (a .headings .now) (a .limits .now) (a .codes .now) (a .values .now) (a .link-powers .now) (a .link-districts .now) in
     let ns = a .list .now in
     (known-sound (a .train) t ns (a .p) l (c .before .before .before .before .before .before .before .path-answer .ensures ∙ ap (λ (b : Bool). pathAnswer b (a .p) l) (c .before .before .before .before .before .before .before .before .train-finite .ensures)) (c .before .before .before .before .before .if1 .left), all-few (a .train) t ns (named-formed (a .train) t ns (a .p) l (c .before .before .before .before .before .before .before .path-answer .ensures ∙ ap (λ (b : Bool). pathAnswer b (a .p) l) (c .before .before .before .before .before .before .before .before .train-finite .ensures)) (c .before .before .before .before .before .if1 .left) (ap not (c .before .before .before .before .if2 .left)) (c .before .before .links-answer .ensures ∙ ap₂ (λ (j : Judged) (ms : List ℕ). linksAnswer t (a .train .«train_type») j ms) (c .before .before .before .follow-question .ensures) (numbers-plain ns)) (c .if3 .left)))
 
@@ -66,7 +66,7 @@ returns-4 : tie.Need-returns-4
 returns-4 c =
     let a = c .before .before .before .before .before .before .before .before .before .before .before .before .before .before .before .before .before .before .before .before .before .before .before .before .before .before .before .before .args in
     let l = columns (a .offsets .now) (a .numbers .now) (a .grades .now) (a .curves .now) (a .speeds .now) (a .powers .now) (a .districts .now) in
-    let t = tableOf (a .links .now) (a .lengths .now) (a .sets .now) (a .elevs .now) (a .headings .now) (a .limits .now) (a .codes .now) (a .values .now) (a .pool .now) (a .regions .now) in
+    let t = tableOf (a .links .now) (a .lengths .now) (a .sets .now) (a .elevs .now) (a .headings .now) (a .limits .now) (a .codes .now) (a .values .now) (a .link-powers .now) (a .link-districts .now) in
     let ns = a .list .now in
     c .sums-answer .ensures ∙ sym (extend-sums (a .train) t ns (a .p) l (c .before .before .before .before .before .before .before .before .path-answer .ensures ∙ ap (λ (b : Bool). pathAnswer b (a .p) l) (c .before .before .before .before .before .before .before .before .before .train-finite .ensures)) (c .before .before .before .before .before .before .if1 .left) (ap not (c .before .before .before .before .before .if2 .left)) (c .before .before .before .links-answer .ensures ∙ ap₂ (λ (j : Judged) (ms : List ℕ). linksAnswer t (a .train .«train_type») j ms) (c .before .before .before .before .follow-question .ensures) (numbers-plain ns)) (c .before .if3 .left))
 

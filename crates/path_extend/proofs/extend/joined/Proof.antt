@@ -14,7 +14,7 @@ sub-coeff-at : tie.Need-sub-coeff-at
 sub-coeff-at c =
     let a = c .before .before .before .before .before .before .before .before .before .before .before .before .before .before .before .before .before .before .before .before .args in
     let l = columns (a .offsets .now) (a .numbers .now) (a .grades .now) (a .curves .now) (a .speeds .now) (a .powers .now) (a .districts .now) in
-    let t = tableOf (a .links .now) (a .lengths .now) (a .sets .now) (a .elevs .now) (a .headings .now) (a .limits .now) (a .codes .now) (a .values .now) (a .pool .now) (a .regions .now) in
+    let t = tableOf (a .links .now) (a .lengths .now) (a .sets .now) (a .elevs .now) (a .headings .now) (a .limits .now) (a .codes .now) (a .values .now) (a .link-powers .now) (a .link-districts .now) in
     let ns = a .list .now in
     some (a .train) t ns (a .p) l (c .before .before .before .before .before .before .before .before .before .before .before .before .before .before .before .before .before .before .before .before .pre .0) (c .before .before .before .before .before .before .before .before .before .before .before .before .before .before .before .before .before .before .before .before .pre .1) .1
 
@@ -25,7 +25,7 @@ join-points-requires : tie.Need-join-points-requires
 join-points-requires c κs =
     let a = c .before .before .before .before .before .before .before .before .before .before .before .before .before .before .before .before .before .before .before .before .before .before .before .args in
     let l = columns (a .offsets .now) (a .numbers .now) (a .grades .now) (a .curves .now) (a .speeds .now) (a .powers .now) (a .districts .now) in
-    let t = tableOf (a .links .now) (a .lengths .now) (a .sets .now) (a .elevs .now) (a .headings .now) (a .limits .now) (a .codes .now) (a .values .now) (a .pool .now) (a .regions .now) in
+    let t = tableOf (a .links .now) (a .lengths .now) (a .sets .now) (a .elevs .now) (a .headings .now) (a .limits .now) (a .codes .now) (a .values .now) (a .link-powers .now) (a .link-districts .now) in
     let ns = a .list .now in
     let f = points-fit (a .train) t ns (a .p) l (c .before .before .before .before .before .before .before .before .before .before .before .before .before .before .before .before .before .before .before .before .before .before .before .pre .0) (c .before .before .before .before .before .before .before .before .before .before .before .before .before .before .before .before .before .before .before .before .before .before .before .pre .1) in
     (some (a .train) t ns (a .p) l (c .before .before .before .before .before .before .before .before .before .before .before .before .before .before .before .before .before .before .before .before .before .before .before .pre .0) (c .before .before .before .before .before .before .before .before .before .before .before .before .before .before .before .before .before .before .before .before .before .before .before .pre .1) .0, (f .0, (f .1, (f .2, points-hold (a .train) t ns (a .p) l (c .before .before .before .before .before .before .before .before .before .before .before .before .before .before .before .before .before .before .before .before .before .before .before .pre .0) (c .before .before .before .before .before .before .before .before .before .before .before .before .before .before .before .before .before .before .before .before .before .before .before .pre .1)))))
@@ -34,7 +34,7 @@ sub-lay-links : tie.Need-sub-lay-links
 sub-lay-links c =
     let a = c .before .before .before .before .before .before .before .before .before .before .before .before .before .before .before .before .before .before .before .before .before .before .before .before .before .before .before .before .before .before .before .before .args in
     let l = columns (a .offsets .now) (a .numbers .now) (a .grades .now) (a .curves .now) (a .speeds .now) (a .powers .now) (a .districts .now) in
-    let t = tableOf (a .links .now) (a .lengths .now) (a .sets .now) (a .elevs .now) (a .headings .now) (a .limits .now) (a .codes .now) (a .values .now) (a .pool .now) (a .regions .now) in
+    let t = tableOf (a .links .now) (a .lengths .now) (a .sets .now) (a .elevs .now) (a .headings .now) (a .limits .now) (a .codes .now) (a .values .now) (a .link-powers .now) (a .link-districts .now) in
     let ns = a .list .now in
     some (a .train) t ns (a .p) l (c .before .before .before .before .before .before .before .before .before .before .before .before .before .before .before .before .before .before .before .before .before .before .before .before .before .before .before .before .before .before .before .before .pre .0) (c .before .before .before .before .before .before .before .before .before .before .before .before .before .before .before .before .before .before .before .before .before .before .before .before .before .before .before .before .before .before .before .before .pre .1) .0
 
@@ -42,7 +42,7 @@ lay-links-requires : tie.Need-lay-links-requires
 lay-links-requires c κs =
     let a = c .before .before .before .before .before .before .before .before .before .before .before .before .before .before .before .before .before .before .before .before .before .before .before .before .before .before .before .before .before .before .before .before .args in
     let l = columns (a .offsets .now) (a .numbers .now) (a .grades .now) (a .curves .now) (a .speeds .now) (a .powers .now) (a .districts .now) in
-    let t = tableOf (a .links .now) (a .lengths .now) (a .sets .now) (a .elevs .now) (a .headings .now) (a .limits .now) (a .codes .now) (a .values .now) (a .pool .now) (a .regions .now) in
+    let t = tableOf (a .links .now) (a .lengths .now) (a .sets .now) (a .elevs .now) (a .headings .now) (a .limits .now) (a .codes .now) (a .values .now) (a .link-powers .now) (a .link-districts .now) in
     let ns = a .list .now in
     let h = c .before .before .before .before .before .before .before .before .join-points .ensures in
     (some (a .train) t ns (a .p) l (c .before .before .before .before .before .before .before .before .before .before .before .before .before .before .before .before .before .before .before .before .before .before .before .before .before .before .before .before .before .before .before .before .pre .0) (c .before .before .before .before .before .before .before .before .before .before .before .before .before .before .before .before .before .before .before .before .before .before .before .before .before .before .before .before .before .before .before .before .pre .1) .3, (omega (arith, points-fit (a .train) t ns (a .p) l (c .before .before .before .before .before .before .before .before .before .before .before .before .before .before .before .before .before .before .before .before .before .before .before .before .before .before .before .before .before .before .before .before .pre .0) (c .before .before .before .before .before .before .before .before .before .before .before .before .before .before .before .before .before .before .before .before .before .before .before .before .before .before .before .before .before .before .before .before .pre .1) .0, some (a .train) t ns (a .p) l (c .before .before .before .before .before .before .before .before .before .before .before .before .before .before .before .before .before .before .before .before .before .before .before .before .before .before .before .before .before .before .before .before .pre .0) (c .before .before .before .before .before .before .before .before .before .before .before .before .before .before .before .before .before .before .before .before .before .before .before .before .before .before .before .before .before .before .before .before .pre .1) .0), (limits-few (a .train) t ns (a .p) l (c .before .before .before .before .before .before .before .before .before .before .before .before .before .before .before .before .before .before .before .before .before .before .before .before .before .before .before .before .before .before .before .before .pre .0) (c .before .before .before .before .before .before .before .before .before .before .before .before .before .before .before .before .before .before .before .before .before .before .before .before .before .before .before .before .before .before .before .before .pre .1) h, (limits-room (a .train) t ns (a .p) l (c .before .before .before .before .before .before .before .before .before .before .before .before .before .before .before .before .before .before .before .before .before .before .before .before .before .before .before .before .before .before .before .before .pre .0) (c .before .before .before .before .before .before .before .before .before .before .before .before .before .before .before .before .before .before .before .before .before .before .before .before .before .before .before .before .before .before .before .before .pre .1) h, speeds-hold (a .train) t ns (a .p) l (c .before .before .before .before .before .before .before .before .before .before .before .before .before .before .before .before .before .before .before .before .before .before .before .before .before .before .before .before .before .before .before .before .pre .0) (c .before .before .before .before .before .before .before .before .before .before .before .before .before .before .before .before .before .before .before .before .before .before .before .before .before .before .before .before .before .before .before .before .pre .1)))))
@@ -51,7 +51,7 @@ start-net-requires : tie.Need-start-net-requires
 start-net-requires c κs =
     let a = c .before .before .before .before .before .before .before .before .before .before .before .before .before .before .before .before .before .before .before .before .before .before .before .before .before .before .before .before .before .before .before .before .before .before .before .before .args in
     let l = columns (a .offsets .now) (a .numbers .now) (a .grades .now) (a .curves .now) (a .speeds .now) (a .powers .now) (a .districts .now) in
-    let t = tableOf (a .links .now) (a .lengths .now) (a .sets .now) (a .elevs .now) (a .headings .now) (a .limits .now) (a .codes .now) (a .values .now) (a .pool .now) (a .regions .now) in
+    let t = tableOf (a .links .now) (a .lengths .now) (a .sets .now) (a .elevs .now) (a .headings .now) (a .limits .now) (a .codes .now) (a .values .now) (a .link-powers .now) (a .link-districts .now) in
     let ns = a .list .now in
     (some (a .train) t ns (a .p) l (c .before .before .before .before .before .before .before .before .before .before .before .before .before .before .before .before .before .before .before .before .before .before .before .before .before .before .before .before .before .before .before .before .before .before .before .before .pre .0) (c .before .before .before .before .before .before .before .before .before .before .before .before .before .before .before .before .before .before .before .before .before .before .before .before .before .before .before .before .before .before .before .before .before .before .before .before .pre .1) .1, (grades-room (a .train) t ns (a .p) l (c .before .before .before .before .before .before .before .before .before .before .before .before .before .before .before .before .before .before .before .before .before .before .before .before .before .before .before .before .before .before .before .before .before .before .before .before .pre .0) (c .before .before .before .before .before .before .before .before .before .before .before .before .before .before .before .before .before .before .before .before .before .before .before .before .before .before .before .before .before .before .before .before .before .before .before .before .pre .1), grades-hold (a .train) t ns (a .p) l (c .before .before .before .before .before .before .before .before .before .before .before .before .before .before .before .before .before .before .before .before .before .before .before .before .before .before .before .before .before .before .before .before .before .before .before .before .pre .0) (c .before .before .before .before .before .before .before .before .before .before .before .before .before .before .before .before .before .before .before .before .before .before .before .before .before .before .before .before .before .before .before .before .before .before .before .before .pre .1)))
 
@@ -59,7 +59,7 @@ join-records-requires : tie.Need-join-records-requires
 join-records-requires c κs =
     let a = c .before .before .before .before .before .before .before .before .before .before .before .before .before .before .before .before .before .before .before .before .before .before .before .before .before .before .before .before .before .before .before .before .before .before .before .before .before .before .before .before .args in
     let l = columns (a .offsets .now) (a .numbers .now) (a .grades .now) (a .curves .now) (a .speeds .now) (a .powers .now) (a .districts .now) in
-    let t = tableOf (a .links .now) (a .lengths .now) (a .sets .now) (a .elevs .now) (a .headings .now) (a .limits .now) (a .codes .now) (a .values .now) (a .pool .now) (a .regions .now) in
+    let t = tableOf (a .links .now) (a .lengths .now) (a .sets .now) (a .elevs .now) (a .headings .now) (a .limits .now) (a .codes .now) (a .values .now) (a .link-powers .now) (a .link-districts .now) in
     let ns = a .list .now in
     let g = first-length (a .train) t ns (a .p) l (c .before .before .before .before .before .before .before .before .before .before .before .before .before .before .before .before .before .before .before .before .before .before .before .before .before .before .before .before .before .before .before .before .before .before .before .before .before .before .before .before .pre .0) (c .before .before .before .before .before .before .before .before .before .before .before .before .before .before .before .before .before .before .before .before .before .before .before .before .before .before .before .before .before .before .before .before .before .before .before .before .before .before .before .before .pre .1 .own) (c .before .before .before .start-net .ensures) (grades-room (a .train) t ns (a .p) l (c .before .before .before .before .before .before .before .before .before .before .before .before .before .before .before .before .before .before .before .before .before .before .before .before .before .before .before .before .before .before .before .before .before .before .before .before .before .before .before .before .pre .0) (c .before .before .before .before .before .before .before .before .before .before .before .before .before .before .before .before .before .before .before .before .before .before .before .before .before .before .before .before .before .before .before .before .before .before .before .before .before .before .before .before .pre .1)) in
     (some (a .train) t ns (a .p) l (c .before .before .before .before .before .before .before .before .before .before .before .before .before .before .before .before .before .before .before .before .before .before .before .before .before .before .before .before .before .before .before .before .before .before .before .before .before .before .before .before .pre .0) (c .before .before .before .before .before .before .before .before .before .before .before .before .before .before .before .before .before .before .before .before .before .before .before .before .before .before .before .before .before .before .before .before .before .before .before .before .before .before .before .before .pre .1) .1, (omega (arith, points-fit (a .train) t ns (a .p) l (c .before .before .before .before .before .before .before .before .before .before .before .before .before .before .before .before .before .before .before .before .before .before .before .before .before .before .before .before .before .before .before .before .before .before .before .before .before .before .before .before .pre .0) (c .before .before .before .before .before .before .before .before .before .before .before .before .before .before .before .before .before .before .before .before .before .before .before .before .before .before .before .before .before .before .before .before .before .before .before .before .before .before .before .before .pre .1) .0), (omega (arith, grades-fit (a .train) t ns (a .p) l (c .before .before .before .before .before .before .before .before .before .before .before .before .before .before .before .before .before .before .before .before .before .before .before .before .before .before .before .before .before .before .before .before .before .before .before .before .before .before .before .before .pre .0) (c .before .before .before .before .before .before .before .before .before .before .before .before .before .before .before .before .before .before .before .before .before .before .before .before .before .before .before .before .before .before .before .before .before .before .before .before .before .before .before .before .pre .1), g), first-held (a .train) t ns (a .p) l (c .before .before .before .before .before .before .before .before .before .before .before .before .before .before .before .before .before .before .before .before .before .before .before .before .before .before .before .before .before .before .before .before .before .before .before .before .before .before .before .before .pre .0) (c .before .before .before .before .before .before .before .before .before .before .before .before .before .before .before .before .before .before .before .before .before .before .before .before .before .before .before .before .before .before .before .before .before .before .before .before .before .before .before .before .pre .1 .own) (c .before .before .before .start-net .ensures) (grades-room (a .train) t ns (a .p) l (c .before .before .before .before .before .before .before .before .before .before .before .before .before .before .before .before .before .before .before .before .before .before .before .before .before .before .before .before .before .before .before .before .before .before .before .before .before .before .before .before .pre .0) (c .before .before .before .before .before .before .before .before .before .before .before .before .before .before .before .before .before .before .before .before .before .before .before .before .before .before .before .before .before .before .before .before .before .before .before .before .before .before .before .before .pre .1)))))
@@ -68,7 +68,7 @@ join-records-requires-2 : tie.Need-join-records-requires-2
 join-records-requires-2 c κs =
     let a = c .before .before .before .before .before .before .before .before .before .before .before .before .before .before .before .before .before .before .before .before .before .before .before .before .before .before .before .before .before .before .before .before .before .before .before .before .before .before .before .before .before .before .before .before .args in
     let l = columns (a .offsets .now) (a .numbers .now) (a .grades .now) (a .curves .now) (a .speeds .now) (a .powers .now) (a .districts .now) in
-    let t = tableOf (a .links .now) (a .lengths .now) (a .sets .now) (a .elevs .now) (a .headings .now) (a .limits .now) (a .codes .now) (a .values .now) (a .pool .now) (a .regions .now) in
+    let t = tableOf (a .links .now) (a .lengths .now) (a .sets .now) (a .elevs .now) (a .headings .now) (a .limits .now) (a .codes .now) (a .values .now) (a .link-powers .now) (a .link-districts .now) in
     let ns = a .list .now in
     (some (a .train) t ns (a .p) l (c .before .before .before .before .before .before .before .before .before .before .before .before .before .before .before .before .before .before .before .before .before .before .before .before .before .before .before .before .before .before .before .before .before .before .before .before .before .before .before .before .before .before .before .before .pre .0) (c .before .before .before .before .before .before .before .before .before .before .before .before .before .before .before .before .before .before .before .before .before .before .before .before .before .before .before .before .before .before .before .before .before .before .before .before .before .before .before .before .before .before .before .before .pre .1) .2, (omega (arith, points-fit (a .train) t ns (a .p) l (c .before .before .before .before .before .before .before .before .before .before .before .before .before .before .before .before .before .before .before .before .before .before .before .before .before .before .before .before .before .before .before .before .before .before .before .before .before .before .before .before .before .before .before .before .pre .0) (c .before .before .before .before .before .before .before .before .before .before .before .before .before .before .before .before .before .before .before .before .before .before .before .before .before .before .before .before .before .before .before .before .before .before .before .before .before .before .before .before .before .before .before .before .pre .1) .0), (curves-fit (a .train) t ns (a .p) l (c .before .before .before .before .before .before .before .before .before .before .before .before .before .before .before .before .before .before .before .before .before .before .before .before .before .before .before .before .before .before .before .before .before .before .before .before .before .before .before .before .before .before .before .before .pre .0) (c .before .before .before .before .before .before .before .before .before .before .before .before .before .before .before .before .before .before .before .before .before .before .before .before .before .before .before .before .before .before .before .before .before .before .before .before .before .before .before .before .before .before .before .before .pre .1), curves-hold (a .train) t ns (a .p) l (c .before .before .before .before .before .before .before .before .before .before .before .before .before .before .before .before .before .before .before .before .before .before .before .before .before .before .before .before .before .before .before .before .before .before .before .before .before .before .before .before .before .before .before .before .pre .0) (c .before .before .before .before .before .before .before .before .before .before .before .before .before .before .before .before .before .before .before .before .before .before .before .before .before .before .before .before .before .before .before .before .before .before .before .before .before .before .before .before .before .before .before .before .pre .1))))
 
@@ -76,7 +76,7 @@ join-powers-requires : tie.Need-join-powers-requires
 join-powers-requires c κs =
     let a = c .before .before .before .before .before .before .before .before .before .before .before .before .before .before .before .before .before .before .before .before .before .before .before .before .before .before .before .before .before .before .before .before .before .before .before .before .before .before .before .before .before .before .before .before .before .before .before .before .before .args in
     let l = columns (a .offsets .now) (a .numbers .now) (a .grades .now) (a .curves .now) (a .speeds .now) (a .powers .now) (a .districts .now) in
-    let t = tableOf (a .links .now) (a .lengths .now) (a .sets .now) (a .elevs .now) (a .headings .now) (a .limits .now) (a .codes .now) (a .values .now) (a .pool .now) (a .regions .now) in
+    let t = tableOf (a .links .now) (a .lengths .now) (a .sets .now) (a .elevs .now) (a .headings .now) (a .limits .now) (a .codes .now) (a .values .now) (a .link-powers .now) (a .link-districts .now) in
     let ns = a .list .now in
     let f = powers-fit (a .train) t ns (a .p) l (c .before .before .before .before .before .before .before .before .before .before .before .before .before .before .before .before .before .before .before .before .before .before .before .before .before .before .before .before .before .before .before .before .before .before .before .before .before .before .before .before .before .before .before .before .before .before .before .before .before .pre .0) (c .before .before .before .before .before .before .before .before .before .before .before .before .before .before .before .before .before .before .before .before .before .before .before .before .before .before .before .before .before .before .before .before .before .before .before .before .before .before .before .before .before .before .before .before .before .before .before .before .before .pre .1) in
     (omega (arith, points-fit (a .train) t ns (a .p) l (c .before .before .before .before .before .before .before .before .before .before .before .before .before .before .before .before .before .before .before .before .before .before .before .before .before .before .before .before .before .before .before .before .before .before .before .before .before .before .before .before .before .before .before .before .before .before .before .before .before .pre .0) (c .before .before .before .before .before .before .before .before .before .before .before .before .before .before .before .before .before .before .before .before .before .before .before .before .before .before .before .before .before .before .before .before .before .before .before .before .before .before .before .before .before .before .before .before .before .before .before .before .before .pre .1) .0), (f .0, (f .1, powers-hold (a .train) t ns (a .p) l (c .before .before .before .before .before .before .before .before .before .before .before .before .before .before .before .before .before .before .before .before .before .before .before .before .before .before .before .before .before .before .before .before .before .before .before .before .before .before .before .before .before .before .before .before .before .before .before .before .before .pre .0) (c .before .before .before .before .before .before .before .before .before .before .before .before .before .before .before .before .before .before .before .before .before .before .before .before .before .before .before .before .before .before .before .before .before .before .before .before .before .before .before .before .before .before .before .before .before .before .before .before .before .pre .1))))
@@ -85,7 +85,7 @@ add-t30 : tie.Need-add-t30
 add-t30 c =
     let a = c .before .before .before .before .before .before .before .before .before .before .before .before .before .before .before .before .before .before .before .before .before .before .before .before .before .before .before .before .before .before .before .before .before .before .before .before .before .before .before .before .before .before .before .before .before .before .before .before .before .before .before .before .before .before .before .args in
     let l = columns (a .offsets .now) (a .numbers .now) (a .grades .now) (a .curves .now) (a .speeds .now) (a .powers .now) (a .districts .now) in
-    let t = tableOf (a .links .now) (a .lengths .now) (a .sets .now) (a .elevs .now) (a .headings .now) (a .limits .now) (a .codes .now) (a .values .now) (a .pool .now) (a .regions .now) in
+    let t = tableOf (a .links .now) (a .lengths .now) (a .sets .now) (a .elevs .now) (a .headings .now) (a .limits .now) (a .codes .now) (a .values .now) (a .link-powers .now) (a .link-districts .now) in
     let ns = a .list .now in
     record { fits = omega (arith, points-fit (a .train) t ns (a .p) l (c .before .before .before .before .before .before .before .before .before .before .before .before .before .before .before .before .before .before .before .before .before .before .before .before .before .before .before .before .before .before .before .before .before .before .before .before .before .before .before .before .before .before .before .before .before .before .before .before .before .before .before .before .before .before .before .pre .0) (c .before .before .before .before .before .before .before .before .before .before .before .before .before .before .before .before .before .before .before .before .before .before .before .before .before .before .before .before .before .before .before .before .before .before .before .before .before .before .before .before .before .before .before .before .before .before .before .before .before .before .before .before .before .before .before .pre .1) .0) }
 
@@ -114,7 +114,7 @@ returns : tie.Need-returns
 returns c =
     let a = c .before .before .before .before .before .before .before .before .before .before .before .before .before .before .before .before .before .before .before .before .before .before .before .before .before .before .before .before .before .before .before .before .before .before .before .before .before .before .before .before .before .before .before .before .before .before .before .before .before .before .before .before .before .before .before .args in
     let l = columns (a .offsets .now) (a .numbers .now) (a .grades .now) (a .curves .now) (a .speeds .now) (a .powers .now) (a .districts .now) in
-    let t = tableOf (a .links .now) (a .lengths .now) (a .sets .now) (a .elevs .now) (a .headings .now) (a .limits .now) (a .codes .now) (a .values .now) (a .pool .now) (a .regions .now) in
+    let t = tableOf (a .links .now) (a .lengths .now) (a .sets .now) (a .elevs .now) (a .headings .now) (a .limits .now) (a .codes .now) (a .values .now) (a .link-powers .now) (a .link-districts .now) in
     let ns = a .list .now in
     assembled (a .train) t ns (a .p) l (c .before .before .before .before .before .before .before .before .before .before .before .before .before .before .before .before .before .before .before .before .before .before .before .before .before .before .before .before .before .before .before .before .before .before .before .before .before .before .before .before .before .before .before .before .before .before .before .before .before .before .before .before .before .before .before .pre .0) (c .before .before .before .before .before .before .before .before .before .before .before .before .before .before .before .before .before .before .before .before .before .before .before .before .before .before .before .before .before .before .before .before .before .before .before .before .before .before .before .before .before .before .before .before .before .before .before .before .before .before .before .before .before .before .before .pre .1 .own) (ap standsAt (c .before .before .before .before .before .before .before .before .before .before .before .before .before .before .before .before .before .before .before .before .before .before .before .before .before .before .before .before .before .before .before .before .before .before .coeff-at .ensures)) (c .before .before .before .before .before .before .before .before .before .before .before .before .before .before .before .before .before .before .before .before .before .before .before .before .before .before .before .before .before .before .before .join-points .ensures) (c .before .before .before .before .before .before .before .before .before .before .before .before .before .before .before .before .before .before .before .before .before .before .before .before .before .before .before .before .before .before .offsets .given) (c .before .before .before .before .before .before .before .before .before .before .before .before .before .before .before .before .before .before .before .before .before .before .before .before .before .before .before .before .numbers .given) (c .before .before .before .before .before .before .before .before .before .before .before .before .before .before .before .before .before .before .before .before .before .before .lay-links .ensures) (c .before .before .before .before .before .before .before .before .before .before .before .before .before .before .before .before .before .before .before .before .before .speeds .given) (c .before .before .before .before .before .before .before .before .before .before .before .before .before .before .before .before .before .before .start-net .ensures) (c .before .before .before .before .before .before .before .before .before .before .before .before .before .before .before .before .before .grades .given) (c .before .before .before .before .before .before .before .before .before .before .before .before .before .before .join-records .ensures) (c .before .before .before .before .before .before .before .before .before .before .join-records2 .ensures) (c .before .before .before .before .before .join-powers .ensures) (c .before .before .before .before .powers .given) (c .before .before .districts .given)
 

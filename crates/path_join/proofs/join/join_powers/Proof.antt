@@ -12,12 +12,12 @@ use Rattle.path_join.proofs.join.join_powers.Statement.{statement}
 use Rattle.path_join.proofs.join.join_powers.Tie as tie
 
 abbrev Inv-loop : tie.InvT-loop
-Inv-loop powers₀ districts₀ m list links lengths elevs pool regions n₀ base₀ k₀ powers districts n base k =
+Inv-loop powers₀ districts₀ m list links lengths elevs link-powers link-districts n₀ base₀ k₀ powers districts n base k =
     let r = rises links lengths elevs in
-    PowersLeft r pool regions powers₀ districts₀ (joinedPowers r pool regions base₀ (powerLimits m powers₀ districts₀) list) (drop k list) powers districts n base
+    PowersLeft r link-powers link-districts powers₀ districts₀ (joinedPowers r link-powers link-districts base₀ (powerLimits m powers₀ districts₀) list) (drop k list) powers districts n base
 
 abbrev μ-loop : tie.MeasureT-loop
-μ-loop powers₀ districts₀ m list links lengths elevs pool regions n₀ base₀ k₀ powers districts n base k =
+μ-loop powers₀ districts₀ m list links lengths elevs link-powers link-districts n₀ base₀ k₀ powers districts n base k =
     length list - k
 
 loop-holds : tie.Need-loop-holds Inv-loop μ-loop

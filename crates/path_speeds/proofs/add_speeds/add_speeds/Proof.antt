@@ -2,7 +2,7 @@
 use native.Mathlib.Omega.{arith}
 use mathlib.Core.Path.{sym, ap, _∙_}
 use Rattle.speed.specs.Column.{points}
-use Rattle.speed.proofs.Held.{length-points, leaves-at}
+use Rattle.speed.proofs.PointColumn.{length-points, leaves-at}
 use Rattle.link.specs.declared.speed_set.SetFound.the-variants.{Found, Missing}
 use Rattle.link.specs.Train.{topSpeed}
 use Rattle.path_speeds.specs.Limits.{speedSets, laying, layAll, layingAt}

@@ -9,8 +9,8 @@ use Rattle.speed.specs.Column.{points}
 use Rattle.link.proofs.Loops.{whole-range, range-none, range-next}
 use Rattle.path.specs.Sound.{total}
 use Rattle.path_speeds.specs.Limits.{speedSets, pointFew, pointCount, layLinks}
-use Rattle.path_speeds.proofs.Going.{going-first}
-use Rattle.path_speeds.proofs.OnPoints.{LinksLeft, links-room, links-next, links-done}
+use Rattle.path_speeds.proofs.LayingLoop.{going-first}
+use Rattle.path_speeds.proofs.LinkLimits.{LinksLeft, links-room, links-next, links-done}
 use Rattle.path_speeds.proofs.add_speeds.lay_links.Statement.{statement}
 use Rattle.path_speeds.proofs.add_speeds.lay_links.Tie as tie
 use Rattle.link.proofs.Known.{every-next}

@@ -31,11 +31,11 @@ loop-holds c =
 link-point-at-requires : tie.Need-link-point-at-requires Inv-loop μ-loop
 link-point-at-requires c κs = tt
 
-cast-link-count : tie.Need-cast-link-count Inv-loop μ-loop
-cast-link-count c = omega arith
+cast-link-limit-count : tie.Need-cast-link-limit-count Inv-loop μ-loop
+cast-link-limit-count c = omega arith
 
-link-count-requires : tie.Need-link-count-requires Inv-loop μ-loop
-link-count-requires c κs =
+link-limit-count-requires : tie.Need-link-limit-count-requires Inv-loop μ-loop
+link-limit-count-requires c κs =
     let a = c .before .before .before .before .before .before .before .before .before .before .args in
     let q = speedSets (a .sets .now) (a .codes .now) (a .values .now) (a .limits .now) in
     let at = pointAt (a .offsets .now) (a .numbers .now) in
@@ -45,7 +45,7 @@ add-n : tie.Need-add-n Inv-loop μ-loop
 add-n c =
     let a = c .before .before .before .before .before .before .before .before .before .before .before .args in
     let q = speedSets (a .sets .now) (a .codes .now) (a .values .now) (a .limits .now) in
-    omega (arith, c .before .before .before .before .before .before .before .before .before .before .before .pre .0, c .before .before .before .before .loop .inv .1, c .link-count .ensures, count-small (a .train) q (c .before .before .link-point-at .result .«link_idx») (c .before .before .before .before .before .before .before .before .shared-slice-known3 .given))
+    omega (arith, c .before .before .before .before .before .before .before .before .before .before .before .pre .0, c .before .before .before .before .loop .inv .1, c .link-limit-count .ensures, count-small (a .train) q (c .before .before .link-point-at .result .«link_idx») (c .before .before .before .before .before .before .before .before .shared-slice-known3 .given))
 
 add-k : tie.Need-add-k Inv-loop μ-loop
 add-k c = omega arith
@@ -61,8 +61,8 @@ loop-again c =
     let k = c .before .before .before .before .loop .k in
     let count = pointCount (a .train) q in (
       every-next at (pointFew (a .train) q) (c .before .before .before .before .loop .k) (a .count) (c .before .before .before .loop-test .taken) (c .before .before .before .before .loop .inv .0) .1,
-      omega (arith, c .before .before .before .before .loop .inv .1, c .link-count .ensures, count-small (a .train) q (c .before .before .link-point-at .result .«link_idx») (c .before .before .before .before .before .before .before .before .shared-slice-known3 .given)),
-      omega (arith, c .before .before .before .before .loop .inv .2, c .link-count .ensures, ap count (c .before .before .link-point-at .ensures), range-total count at k (a .count) (c .before .before .before .loop-test .taken)),
+      omega (arith, c .before .before .before .before .loop .inv .1, c .link-limit-count .ensures, count-small (a .train) q (c .before .before .link-point-at .result .«link_idx») (c .before .before .before .before .before .before .before .before .shared-slice-known3 .given)),
+      omega (arith, c .before .before .before .before .loop .inv .2, c .link-limit-count .ensures, ap count (c .before .before .link-point-at .ensures), range-total count at k (a .count) (c .before .before .before .loop-test .taken)),
     )
 
 returns : tie.Need-returns Inv-loop μ-loop
@@ -80,8 +80,8 @@ points-count-spec =
     μ-loop
     loop-holds
     link-point-at-requires
-    cast-link-count
-    link-count-requires
+    cast-link-limit-count
+    link-limit-count-requires
     add-n
     add-k
     loop-less

@@ -5,12 +5,12 @@ use mathlib.Core.Path.{refl, ap}
 use mathlib.Core.Logic.{⊎-elim}
 use lib.ListN.{length}
 use Rattle.speed.specs.Column.{points}
-use Rattle.speed.proofs.Held.{leaves-at}
+use Rattle.speed.proofs.PointColumn.{leaves-at}
 use Rattle.link.specs.declared.speed_set.SetFound.the-variants.{Found}
 use Rattle.link.specs.Table.{limitOf}
 use Rattle.path_speeds.specs.Limits.{layAll, laying}
 use Rattle.path_speeds.proofs.Lowered.{limitsEnd, toLay, lay-next, lay-skip, lay-end, lay-whole, length-whole}
-use Rattle.path_speeds.proofs.Going.{LimitsLeft, going-first, limits-next, limits-skip, limits-done}
+use Rattle.path_speeds.proofs.LayingLoop.{LimitsLeft, going-first, limits-next, limits-skip, limits-done}
 use Rattle.path_speeds.proofs.limits.lay_limits.Statement.{statement}
 use Rattle.path_speeds.proofs.limits.lay_limits.Tie as tie
 

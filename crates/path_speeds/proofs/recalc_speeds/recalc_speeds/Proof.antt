@@ -35,28 +35,28 @@ returns : tie.Need-returns
 returns c =
     let a = c .before .before .before .before .before .before .before .before .before .before .before .before .before .before .before .before .before .before .before .before .before .before .before .before .before .before .before .args in
     let l = columns (a .offsets .now) (a .numbers .now) (a .grades .now) (a .curves .now) (a .speeds .now) (a .powers .now) (a .districts .now) in
-    let t = tableOf (a .links .now) (a .lengths .now) (a .sets .now) (a .elevs .now) (a .headings .now) (a .limits .now) (a .codes .now) (a .values .now) (a .pool .now) (a .regions .now) in
+    let t = tableOf (a .links .now) (a .lengths .now) (a .sets .now) (a .elevs .now) (a .headings .now) (a .limits .now) (a .codes .now) (a .values .now) (a .link-powers .now) (a .link-districts .now) in
     refused (a .train) t (a .p) l (c .before .before .recalc-answer .ensures) (c .if1 .taken)
 
 zero-rest-requires : tie.Need-zero-rest-requires
 zero-rest-requires c κs =
     let a = c .before .before .before .before .before .before .before .before .before .before .before .before .before .before .before .before .before .before .before .before .before .before .before .before .before .before .before .before .before .before .before .before .before .before .args in
     let l = columns (a .offsets .now) (a .numbers .now) (a .grades .now) (a .curves .now) (a .speeds .now) (a .powers .now) (a .districts .now) in
-    let t = tableOf (a .links .now) (a .lengths .now) (a .sets .now) (a .elevs .now) (a .headings .now) (a .limits .now) (a .codes .now) (a .values .now) (a .pool .now) (a .regions .now) in
+    let t = tableOf (a .links .now) (a .lengths .now) (a .sets .now) (a .elevs .now) (a .headings .now) (a .limits .now) (a .codes .now) (a .values .now) (a .link-powers .now) (a .link-districts .now) in
     within (a .train) t (a .p) l (c .before .before .before .before .before .before .before .before .before .recalc-answer .ensures) (c .before .before .before .before .before .before .before .if1 .left)
 
 sub-count : tie.Need-sub-count
 sub-count c =
     let a = c .before .before .before .before .before .before .before .before .before .before .before .before .before .before .before .before .before .before .before .before .before .before .before .before .before .before .before .before .before .before .before .before .before .before .before .before .before .before .before .before .before .before .before .before .before .before .before .before .before .before .args in
     let l = columns (a .offsets .now) (a .numbers .now) (a .grades .now) (a .curves .now) (a .speeds .now) (a .powers .now) (a .districts .now) in
-    let t = tableOf (a .links .now) (a .lengths .now) (a .sets .now) (a .elevs .now) (a .headings .now) (a .limits .now) (a .codes .now) (a .values .now) (a .pool .now) (a .regions .now) in
+    let t = tableOf (a .links .now) (a .lengths .now) (a .sets .now) (a .elevs .now) (a .headings .now) (a .limits .now) (a .codes .now) (a .values .now) (a .link-powers .now) (a .link-districts .now) in
     some-points (a .train) t (a .p) l (c .before .before .before .before .before .before .before .before .before .before .before .before .before .before .before .before .before .before .before .before .before .before .before .before .before .recalc-answer .ensures) (c .before .before .before .before .before .before .before .before .before .before .before .before .before .before .before .before .before .before .before .before .before .before .before .if1 .left)
 
 lay-anew-requires : tie.Need-lay-anew-requires
 lay-anew-requires c κs =
     let a = c .before .before .before .before .before .before .before .before .before .before .before .before .before .before .before .before .before .before .before .before .before .before .before .before .before .before .before .before .before .before .before .before .before .before .before .before .before .before .before .before .before .before .before .before .before .before .before .before .before .before .before .before .before .args in
     let l = columns (a .offsets .now) (a .numbers .now) (a .grades .now) (a .curves .now) (a .speeds .now) (a .powers .now) (a .districts .now) in
-    let t = tableOf (a .links .now) (a .lengths .now) (a .sets .now) (a .elevs .now) (a .headings .now) (a .limits .now) (a .codes .now) (a .values .now) (a .pool .now) (a .regions .now) in
+    let t = tableOf (a .links .now) (a .lengths .now) (a .sets .now) (a .elevs .now) (a .headings .now) (a .limits .now) (a .codes .now) (a .values .now) (a .link-powers .now) (a .link-districts .now) in
     ready (a .train) t (a .p) l (c .before .before .before .before .before .before .before .before .before .before .before .before .before .before .before .before .before .before .before .before .before .before .before .before .before .before .before .before .recalc-answer .ensures) (c .before .before .before .before .before .before .before .before .before .before .before .before .before .before .before .before .before .before .before .before .before .before .before .before .before .before .if1 .left) (c .before .before .before .before .before .before .before .before .before .before .before .before .before .before .before .before .before .before .zero-rest .ensures)
 
 same-length-8 : tie.Need-same-length-8
@@ -84,7 +84,7 @@ returns-2 : tie.Need-returns-2
 returns-2 c =
     let a = c .before .before .before .before .before .before .before .before .before .before .before .before .before .before .before .before .before .before .before .before .before .before .before .before .before .before .before .before .before .before .before .before .before .before .before .before .before .before .before .before .before .before .before .before .before .before .before .before .before .before .before .before .before .before .before .before .args in
     let l = columns (a .offsets .now) (a .numbers .now) (a .grades .now) (a .curves .now) (a .speeds .now) (a .powers .now) (a .districts .now) in
-    let t = tableOf (a .links .now) (a .lengths .now) (a .sets .now) (a .elevs .now) (a .headings .now) (a .limits .now) (a .codes .now) (a .values .now) (a .pool .now) (a .regions .now) in
+    let t = tableOf (a .links .now) (a .lengths .now) (a .sets .now) (a .elevs .now) (a .headings .now) (a .limits .now) (a .codes .now) (a .values .now) (a .link-powers .now) (a .link-districts .now) in
     recalced (a .train) t (a .p) l (c .before .before .before .before .before .before .before .before .before .before .before .before .before .before .before .before .before .before .before .before .before .before .before .before .before .before .before .before .before .before .before .recalc-answer .ensures) (c .before .before .before .before .before .before .before .before .before .before .before .before .before .before .before .before .before .before .before .before .before .before .before .before .before .before .before .before .before .if1 .left) (c .before .before .before .before .before .before .before .before .before .before .before .before .before .before .before .before .before .before .before .before .before .zero-rest .ensures) (c .before .before .lay-anew .kept .0) (c .before .before .lay-anew .ensures)
 
 pub recalc-speeds-spec : {M : Type 1} → statement M

@@ -13,16 +13,16 @@ use Rattle.path_stretches.proofs.powers.lay_powers.Statement.{statement
 use Rattle.path_stretches.proofs.powers.lay_powers.Tie as tie
 
 abbrev Inv-loop : tie.InvT-loop
-Inv-loop powers₀ districts₀ m pool regions first count base k₀ powers districts k =
-    (k ≤ count) × (length powers ≡ length powers₀) × (length districts ≡ length districts₀) × HoldsPowers powers districts (powerLimits m powers₀ districts₀ ++ map (placedPower (base .0)) (upFrom (powerAt pool regions) first k))
+Inv-loop powers₀ districts₀ m link-powers link-districts first count base k₀ powers districts k =
+    (k ≤ count) × (length powers ≡ length powers₀) × (length districts ≡ length districts₀) × HoldsPowers powers districts (powerLimits m powers₀ districts₀ ++ map (placedPower (base .0)) (upFrom (powerAt link-powers link-districts) first k))
 
 abbrev μ-loop : tie.MeasureT-loop
-μ-loop powers₀ districts₀ m pool regions first count base k₀ powers districts k = count - k
+μ-loop powers₀ districts₀ m link-powers link-districts first count base k₀ powers districts k = count - k
 
 loop-holds : tie.Need-loop-holds Inv-loop μ-loop
 loop-holds c =
     let a = c .before .before .before .before .args in
-    (omega arith, refl, refl, push-none (placedPower (a .base .0)) (powerAt (a .pool .now) (a .regions .now)) (a .first) (a .m) (a .powers .now) (a .districts .now) (c .before .before .before .before .pre .1 .1 .1))
+    (omega arith, refl, refl, push-none (placedPower (a .base .0)) (powerAt (a .link-powers .now) (a .link-districts .now)) (a .first) (a .m) (a .powers .now) (a .districts .now) (c .before .before .before .before .pre .1 .1 .1))
 
 add-power-limit-at : tie.Need-add-power-limit-at Inv-loop μ-loop
 add-power-limit-at c = omega arith
@@ -55,7 +55,7 @@ loop-again : tie.Need-loop-again Inv-loop μ-loop
 loop-again c =
     let a = c .before .before .before .before .before .before .before .before .before .before .before .before .before .before .before .before .args in
     let l = c .before .before .before .before .before .before .before .before .before .before .before .loop in
-    let at = powerAt (a .pool .now) (a .regions .now) in
+    let at = powerAt (a .link-powers .now) (a .link-districts .now) in
     let wn = c .before .before .before .before .before .before .put-three .kept .0 in
     let dn = c .before .before .set .kept .0 in
     let placed = c .before .before .before .before .before .before .before .before .placed-power .ensures ∙ ap (placedPower (a .base .0)) (c .before .before .before .before .before .before .before .before .before .power-limit-at .ensures) in

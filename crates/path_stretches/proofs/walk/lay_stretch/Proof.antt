@@ -7,7 +7,7 @@ use mathlib.Core.Logic.{⊎-elim}
 use lib.ListN.{length, getD, length-set}
 use lib.Ieee.{nan}
 use Rattle.ieee.proofs.Same.{zero-literal}
-use Rattle.path_stretches.proofs.Laying.{stored}
+use Rattle.path_stretches.proofs.StretchesLaid.{stored}
 use borrow.Author.Needs.{needs}
 use Rattle.path_stretches.proofs.walk.lay_stretch.Statement.{statement}
 use Rattle.path_stretches.proofs.walk.lay_stretch.Tie as tie

@@ -6,8 +6,8 @@ use lib.ListN.{length}
 use Rattle.link.specs.Table.{sampleAt}
 use Rattle.lookup.specs.Coeff.{coeffs}
 use Rattle.path_stretches.specs.Stretches.{stretchStep, layStretches}
-use Rattle.path_stretches.proofs.Steps.{stretchesAt, count-none, count-some, count-range}
-use Rattle.path_stretches.proofs.Laying.{Going, going-start, going-next, going-end, laid-flat, laid-all}
+use Rattle.path_stretches.proofs.StretchSteps.{stretchesAt, count-none, count-some, count-range}
+use Rattle.path_stretches.proofs.StretchesLaid.{Going, going-start, going-next, going-end, laid-flat, laid-all}
 use Rattle.path_stretches.proofs.walk.lay_stretches.Statement.{statement}
 use Rattle.path_stretches.proofs.walk.lay_stretches.Tie as tie
 

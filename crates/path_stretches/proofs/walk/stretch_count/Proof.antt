@@ -1,7 +1,7 @@
 -- `stretch_count`: none, and some.
 use mathlib.Core.Path.{sym}
 use native.Mathlib.Omega.{arith}
-use Rattle.path_stretches.proofs.Steps.{count-none, count-some}
+use Rattle.path_stretches.proofs.StretchSteps.{count-none, count-some}
 use borrow.Author.Needs.{needs}
 use Rattle.path_stretches.proofs.walk.stretch_count.Statement.{statement}
 use Rattle.path_stretches.proofs.walk.stretch_count.Tie as tie

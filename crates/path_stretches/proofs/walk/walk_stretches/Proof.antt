@@ -4,7 +4,7 @@ use native.Mathlib.Omega.{arith}
 use mathlib.Core.Path.{_≡_, refl, sym, ap, _∙_}
 use Rattle.link.specs.Table.{sampleAt}
 use Rattle.path_stretches.specs.Stretches.{stretchStep, reached}
-use Rattle.path_stretches.proofs.Steps.{stretchesAt, stretches-flat, stretches-all, after, walk-more, walk-none, walk-flat}
+use Rattle.path_stretches.proofs.StretchSteps.{stretchesAt, stretches-flat, stretches-all, after, walk-more, walk-none, walk-flat}
 use Rattle.path_stretches.proofs.walk.walk_stretches.Statement.{statement}
 use Rattle.path_stretches.proofs.walk.walk_stretches.Tie as tie
 

@@ -7,10 +7,10 @@ use Rattle.plan.proofs.session.run.Statement.{statement}
 use Rattle.plan.proofs.session.run.Tie as tie
 
 abbrev Inv-loop : tie.InvT-loop
-Inv-loop text seen svg offsets₀ numbers₀ grades₀ curves₀ speeds₀ powers₀ districts₀ links lengths sets elevs headings limits codes values pool regions boards₀ tags₀ borders₀ heights₀ train s₀ at₀ offsets numbers grades curves speeds powers districts boards tags borders heights s at = Unit {0}
+Inv-loop text seen svg offsets₀ numbers₀ grades₀ curves₀ speeds₀ powers₀ districts₀ links lengths sets elevs headings limits codes values link-powers link-districts boards₀ tags₀ borders₀ heights₀ train s₀ at₀ offsets numbers grades curves speeds powers districts boards tags borders heights s at = Unit {0}
 
 abbrev μ-loop : tie.MeasureT-loop
-μ-loop text seen svg offsets₀ numbers₀ grades₀ curves₀ speeds₀ powers₀ districts₀ links lengths sets elevs headings limits codes values pool regions boards₀ tags₀ borders₀ heights₀ train s₀ at₀ offsets numbers grades curves speeds powers districts boards tags borders heights s at = length text - at
+μ-loop text seen svg offsets₀ numbers₀ grades₀ curves₀ speeds₀ powers₀ districts₀ links lengths sets elevs headings limits codes values link-powers link-districts boards₀ tags₀ borders₀ heights₀ train s₀ at₀ offsets numbers grades curves speeds powers districts boards tags borders heights s at = length text - at
 
 train-of-requires : tie.Need-train-of-requires Inv-loop μ-loop
 train-of-requires c κs = search needs

@@ -8,7 +8,7 @@ use Rattle.route.proofs.fill.fill_table.Statement.{statement}
 use Rattle.route.proofs.fill.fill_table.Tie as tie
 
 abbrev Inv-loop : tie.InvT-loop
-Inv-loop text links₀ lengths₀ sets₀ elevs₀ headings₀ limits₀ codes₀ values₀ pool₀ regions₀ h₀ at₀ links lengths sets elevs headings limits codes values pool regions h at =
+Inv-loop text links₀ lengths₀ sets₀ elevs₀ headings₀ limits₀ codes₀ values₀ pool₀ regions₀ h₀ at₀ links lengths sets elevs headings limits codes values link-powers link-districts h at =
     (length links ≡ length links₀)
     × (length lengths ≡ length lengths₀)
     × (length sets ≡ length sets₀)
@@ -17,11 +17,11 @@ Inv-loop text links₀ lengths₀ sets₀ elevs₀ headings₀ limits₀ codes�
     × (length limits ≡ length limits₀)
     × (length codes ≡ length codes₀)
     × (length values ≡ length values₀)
-    × (length pool ≡ length pool₀)
-    × (length regions ≡ length regions₀)
+    × (length link-powers ≡ length pool₀)
+    × (length link-districts ≡ length regions₀)
 
 abbrev μ-loop : tie.MeasureT-loop
-μ-loop text links₀ lengths₀ sets₀ elevs₀ headings₀ limits₀ codes₀ values₀ pool₀ regions₀ h₀ at₀ links lengths sets elevs headings limits codes values pool regions h at = length text - at
+μ-loop text links₀ lengths₀ sets₀ elevs₀ headings₀ limits₀ codes₀ values₀ pool₀ regions₀ h₀ at₀ links lengths sets elevs headings limits codes values link-powers link-districts h at = length text - at
 
 nowhere-requires : tie.Need-nowhere-requires Inv-loop μ-loop
 nowhere-requires c κs = search needs

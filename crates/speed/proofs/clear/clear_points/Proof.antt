@@ -6,7 +6,7 @@ use lib.ListN.{length, drop, length-set}
 use Rattle.speed.specs.Points.{point, speedAt, setOffset}
 use Rattle.speed.specs.Column.{points}
 use Rattle.speed.specs.Clear.{clearPoints}
-use Rattle.speed.proofs.Held.{length-points, next-moved, leaves-at}
+use Rattle.speed.proofs.PointColumn.{length-points, next-moved, leaves-at}
 use Rattle.speed.proofs.Cleared.{kept-below, moved-first}
 use borrow.Author.Needs.{needs}
 use Rattle.speed.proofs.clear.clear_points.Statement.{statement}

@@ -7,7 +7,7 @@ use lib.Ieee as Ieee
 use lib.Ieee.{Float}
 use Rattle.speed.specs.Column.{points}
 use Rattle.speed.specs.Clear.{clearFrom}
-use Rattle.speed.proofs.Held.{length-points}
+use Rattle.speed.proofs.PointColumn.{length-points}
 use Rattle.speed.proofs.Cleared.{kept-at, kept-before}
 use borrow.Author.Needs.{needs}
 use Rattle.speed.proofs.clear.kept_from.Statement.{statement}

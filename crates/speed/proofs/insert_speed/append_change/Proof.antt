@@ -10,8 +10,8 @@ use Rattle.column.specs.Entries.{insertAt}
 use Rattle.speed.specs.Points.{Point, point, offsetAt, speedAt, setOffset}
 use Rattle.speed.specs.Column.{points}
 use Rattle.speed.specs.Insert.{appendChange}
-use Rattle.speed.proofs.Held.{length-points, next-inserted, next-set, leaves-at}
-use Rattle.speed.proofs.Steps.{length-inserted, insert-end, change-after, change-moved, change-at}
+use Rattle.speed.proofs.PointColumn.{length-points, next-inserted, next-set, leaves-at}
+use Rattle.speed.proofs.InsertSteps.{length-inserted, insert-end, change-after, change-moved, change-at}
 use borrow.Author.Needs.{needs}
 use Rattle.speed.proofs.insert_speed.append_change.Statement.{statement}
 use Rattle.speed.proofs.insert_speed.append_change.Tie as tie

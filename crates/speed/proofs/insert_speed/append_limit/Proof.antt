@@ -7,8 +7,8 @@ use Rattle.ieee.specs.Speed.{minSpeed}
 use Rattle.speed.specs.Points.{speedAt}
 use Rattle.speed.specs.Column.{points}
 use Rattle.speed.specs.Insert.{appendChange, appendLimit}
-use Rattle.speed.proofs.Held.{length-points, leaves-at}
-use Rattle.speed.proofs.Steps.{append-changed, append-same}
+use Rattle.speed.proofs.PointColumn.{length-points, leaves-at}
+use Rattle.speed.proofs.InsertSteps.{append-changed, append-same}
 use borrow.Author.Needs.{needs}
 use Rattle.speed.proofs.insert_speed.append_limit.Statement.{statement}
 use Rattle.speed.proofs.insert_speed.append_limit.Tie as tie

@@ -8,8 +8,8 @@ use Rattle.column.specs.Entries.{removeAt}
 use Rattle.speed.specs.Points.{repeats}
 use Rattle.speed.specs.Column.{points}
 use Rattle.speed.specs.Insert.{dropRepeat}
-use Rattle.speed.proofs.Held.{length-points, leaves-at}
-use Rattle.speed.proofs.Steps.{length-removed, repeat-dropped, repeat-kept}
+use Rattle.speed.proofs.PointColumn.{length-points, leaves-at}
+use Rattle.speed.proofs.InsertSteps.{length-removed, repeat-dropped, repeat-kept}
 use borrow.Author.Needs.{needs}
 use Rattle.speed.proofs.insert_speed.drop_repeat.Statement.{statement}
 use Rattle.speed.proofs.insert_speed.drop_repeat.Tie as tie

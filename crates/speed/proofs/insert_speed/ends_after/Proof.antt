@@ -4,7 +4,7 @@ use lib.Ieee as Ieee
 use lib.Ieee.{Float}
 use Rattle.ieee.specs.Speed.{minSpeed}
 use Rattle.speed.specs.Column.{points}
-use Rattle.speed.proofs.Steps.{ends-yes, ends-no}
+use Rattle.speed.proofs.InsertSteps.{ends-yes, ends-no}
 use borrow.Author.Needs.{needs}
 use Rattle.speed.proofs.insert_speed.ends_after.Statement.{statement}
 use Rattle.speed.proofs.insert_speed.ends_after.Tie as tie

@@ -4,8 +4,8 @@ use lib.Ieee as Ieee
 use lib.Ieee.{Float}
 use Rattle.speed.specs.Column.{points}
 use Rattle.speed.specs.Insert.{appendLimit, layLimit, insertSpeed}
-use Rattle.speed.proofs.Held.{length-points, leaves-at}
-use Rattle.speed.proofs.Steps.{insert-append, insert-lay}
+use Rattle.speed.proofs.PointColumn.{length-points, leaves-at}
+use Rattle.speed.proofs.InsertSteps.{insert-append, insert-lay}
 use borrow.Author.Needs.{needs}
 use Rattle.speed.proofs.insert_speed.insert_speed.Statement.{statement}
 use Rattle.speed.proofs.insert_speed.insert_speed.Tie as tie

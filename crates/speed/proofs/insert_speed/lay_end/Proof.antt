@@ -7,8 +7,8 @@ use Rattle.column.specs.Entries.{insertAt}
 use Rattle.speed.specs.Points.{point}
 use Rattle.speed.specs.Column.{points}
 use Rattle.speed.specs.Insert.{merge, layEnd}
-use Rattle.speed.proofs.Held.{next-inserted, leaves-at}
-use Rattle.speed.proofs.Steps.{end-laid, end-kept}
+use Rattle.speed.proofs.PointColumn.{next-inserted, leaves-at}
+use Rattle.speed.proofs.InsertSteps.{end-laid, end-kept}
 use borrow.Author.Needs.{needs}
 use Rattle.speed.proofs.insert_speed.lay_end.Statement.{statement}
 use Rattle.speed.proofs.insert_speed.lay_end.Tie as tie

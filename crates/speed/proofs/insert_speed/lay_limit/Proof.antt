@@ -10,8 +10,8 @@ use lib.ListN.{length}
 use Rattle.speed.specs.Points.{offsetAt}
 use Rattle.speed.specs.Column.{points}
 use Rattle.speed.specs.Insert.{layStart, layLimit}
-use Rattle.speed.proofs.Held.{length-points, leaves-at}
-use Rattle.speed.proofs.Steps.{first-below, last-le, limit-laid}
+use Rattle.speed.proofs.PointColumn.{length-points, leaves-at}
+use Rattle.speed.proofs.InsertSteps.{first-below, last-le, limit-laid}
 use borrow.Author.Needs.{needs}
 use Rattle.speed.proofs.insert_speed.lay_limit.Statement.{statement}
 use Rattle.speed.proofs.insert_speed.lay_limit.Tie as tie

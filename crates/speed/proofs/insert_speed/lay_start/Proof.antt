@@ -9,8 +9,8 @@ use Rattle.column.specs.Entries.{insertAt}
 use Rattle.speed.specs.Points.{point, speedAt}
 use Rattle.speed.specs.Column.{points}
 use Rattle.speed.specs.Insert.{layEnd, layStart}
-use Rattle.speed.proofs.Held.{next-inserted, leaves-at}
-use Rattle.speed.proofs.Steps.{start-laid, start-same, start-kept}
+use Rattle.speed.proofs.PointColumn.{next-inserted, leaves-at}
+use Rattle.speed.proofs.InsertSteps.{start-laid, start-same, start-kept}
 use borrow.Author.Needs.{needs}
 use Rattle.speed.proofs.insert_speed.lay_start.Statement.{statement}
 use Rattle.speed.proofs.insert_speed.lay_start.Tie as tie

@@ -8,8 +8,8 @@ use Rattle.ieee.specs.Speed.{minSpeed}
 use Rattle.speed.specs.Points.{point, offsetAt, speedAt, setSpeed, repeats}
 use Rattle.speed.specs.Column.{points, Holds}
 use Rattle.speed.specs.Insert.{merge, dropRepeat}
-use Rattle.speed.proofs.Held.{next-removed, next-set, leaves-at}
-use Rattle.speed.proofs.Steps.{merge-done, merge-removed, merge-stored}
+use Rattle.speed.proofs.PointColumn.{next-removed, next-set, leaves-at}
+use Rattle.speed.proofs.InsertSteps.{merge-done, merge-removed, merge-stored}
 use Rattle.speed.proofs.insert_speed.merge_range.Statement.{statement}
 use Rattle.speed.proofs.insert_speed.merge_range.Tie as tie
 

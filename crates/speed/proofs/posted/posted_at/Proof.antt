@@ -10,7 +10,7 @@ use Rattle.ieee.specs.Number.{+0}
 use Rattle.ieee.proofs.Order.{of-true}
 use Rattle.speed.specs.Points.{offsetAt}
 use Rattle.speed.specs.Column.{points}
-use Rattle.speed.proofs.Held.{length-points}
+use Rattle.speed.proofs.PointColumn.{length-points}
 use Rattle.speed.proofs.Reached.{reaches, posted-last, reaches-at, reaches-end}
 use Rattle.speed.proofs.posted.posted_at.Statement.{statement}
 use Rattle.speed.proofs.posted.posted_at.Tie as tie

@@ -8,8 +8,8 @@ use lib.Ieee.{Float}
 use Rattle.speed.specs.Insert.{firstFrom}
 use native.Mathlib.Omega.{arith}
 use Rattle.speed.specs.Column.{points}
-use Rattle.speed.proofs.Held.{length-points}
-use Rattle.speed.proofs.Steps.{first-pass, first-stop, first-end}
+use Rattle.speed.proofs.PointColumn.{length-points}
+use Rattle.speed.proofs.InsertSteps.{first-pass, first-stop, first-end}
 use Rattle.speed.proofs.speed_point.first_from.Statement.{statement}
 use Rattle.speed.proofs.speed_point.first_from.Tie as tie
 

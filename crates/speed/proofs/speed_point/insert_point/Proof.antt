@@ -1,6 +1,6 @@
 -- `insert_point`: a gap of two entries, and a point in it.
 use Rattle.column.specs.declared.Two.{Two}
-use Rattle.speed.proofs.Held.{inserted}
+use Rattle.speed.proofs.PointColumn.{inserted}
 use borrow.Author.Needs.{needs}
 use Rattle.speed.proofs.speed_point.insert_point.Statement.{statement}
 use Rattle.speed.proofs.speed_point.insert_point.Tie as tie

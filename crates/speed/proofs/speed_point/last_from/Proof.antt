@@ -5,7 +5,7 @@ use lib.Ieee as Ieee
 use Rattle.speed.specs.Insert.{lastFrom}
 use native.Mathlib.Omega.{arith}
 use Rattle.speed.specs.Column.{points}
-use Rattle.speed.proofs.Steps.{last-pass, last-stop, last-none}
+use Rattle.speed.proofs.InsertSteps.{last-pass, last-stop, last-none}
 use Rattle.speed.proofs.speed_point.last_from.Statement.{statement}
 use Rattle.speed.proofs.speed_point.last_from.Tie as tie
 

@@ -1,5 +1,5 @@
 -- `offset_at`: the first entry of a point.
-use Rattle.speed.proofs.Held.{read-offset}
+use Rattle.speed.proofs.PointColumn.{read-offset}
 use borrow.Author.Needs.{needs}
 use Rattle.speed.proofs.speed_point.offset_at.Statement.{statement}
 use Rattle.speed.proofs.speed_point.offset_at.Tie as tie

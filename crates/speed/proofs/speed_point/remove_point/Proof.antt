@@ -1,6 +1,6 @@
 -- `remove_point`: the two entries of a point go out.
 use native.Mathlib.Omega.{arith}
-use Rattle.speed.proofs.Held.{fits-points, removed}
+use Rattle.speed.proofs.PointColumn.{fits-points, removed}
 use borrow.Author.Needs.{needs}
 use Rattle.speed.proofs.speed_point.remove_point.Statement.{statement}
 use Rattle.speed.proofs.speed_point.remove_point.Tie as tie

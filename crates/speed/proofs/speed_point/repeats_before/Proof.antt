@@ -3,7 +3,7 @@ use mathlib.Core.Path.{ap, _∙_}
 use lib.Ieee as Ieee
 use lib.Ieee.{Float}
 use Rattle.speed.specs.Column.{points}
-use Rattle.speed.proofs.Steps.{repeats-none, repeats-some}
+use Rattle.speed.proofs.InsertSteps.{repeats-none, repeats-some}
 use borrow.Author.Needs.{needs}
 use Rattle.speed.proofs.speed_point.repeats_before.Statement.{statement}
 use Rattle.speed.proofs.speed_point.repeats_before.Tie as tie

@@ -1,6 +1,6 @@
 -- `set_offset`: one store, to the first entry of a point.
 use native.Mathlib.Omega.{arith}
-use Rattle.speed.proofs.Held.{fits-points, offset-stored}
+use Rattle.speed.proofs.PointColumn.{fits-points, offset-stored}
 use borrow.Author.Needs.{needs}
 use Rattle.speed.proofs.speed_point.set_offset.Statement.{statement}
 use Rattle.speed.proofs.speed_point.set_offset.Tie as tie

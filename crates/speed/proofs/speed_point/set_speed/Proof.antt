@@ -1,6 +1,6 @@
 -- `set_speed`: one store, to the second entry of a point.
 use native.Mathlib.Omega.{arith}
-use Rattle.speed.proofs.Held.{fits-points, speed-stored}
+use Rattle.speed.proofs.PointColumn.{fits-points, speed-stored}
 use borrow.Author.Needs.{needs}
 use Rattle.speed.proofs.speed_point.set_speed.Statement.{statement}
 use Rattle.speed.proofs.speed_point.set_speed.Tie as tie

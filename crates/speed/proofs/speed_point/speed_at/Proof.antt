@@ -1,5 +1,5 @@
 -- `speed_at`: the second entry of a point.
-use Rattle.speed.proofs.Held.{read-speed}
+use Rattle.speed.proofs.PointColumn.{read-speed}
 use borrow.Author.Needs.{needs}
 use Rattle.speed.proofs.speed_point.speed_at.Statement.{statement}
 use Rattle.speed.proofs.speed_point.speed_at.Tie as tie

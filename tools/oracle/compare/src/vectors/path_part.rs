@@ -36,8 +36,8 @@ fn columns(f: &Flat) -> [Vec<u64>; 10] {
         bits(&f.limits),
         numbers(&f.codes),
         bits(&f.values),
-        bits(&f.pool),
-        numbers(&f.regions),
+        bits(&f.link_powers),
+        numbers(&f.link_districts),
     ]
 }
 

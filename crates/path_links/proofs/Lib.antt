@@ -1,4 +1,0 @@
--- Laws of the definitions.
-pub mod Fours
-pub mod Renumbered
-pub mod LinkParts

@@ -1,8 +1,0 @@
--- Laws of the definitions.
-pub mod WithoutLinks
-pub mod Rising
-pub mod StillSound
-pub mod Twice
-pub mod Gone
-pub mod Each
-pub mod Called
