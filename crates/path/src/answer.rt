@@ -6,8 +6,18 @@ use crate::sound::path_sound;
 use link::network::Judged;
 ghost use mathlib.Core.Path.{_≡_};
 ghost use Rattle.path.specs.Records.{columnsBefore};
-ghost use Rattle.path.specs.Answers.{ask, askEach};
+ghost use Rattle.path.specs.Answers.{done, ask, askEach};
 ghost use Rattle.path.specs.Sound.{pathAnswer};
+
+// Done.
+pub fn done() -> Answer
+    ensures { λ r. ⌜ r ≡ done ⌝ }
+{
+    Answer {
+        number: 0,
+        place: 0,
+    }
+}
 
 // The answer to a question with place 0.
 pub fn asked(number: u32, yes: bool) -> Answer

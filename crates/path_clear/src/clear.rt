@@ -1,5 +1,6 @@
 // `clear`: the links behind an offset go.
 use path::answer::asked;
+use path::answer::done;
 use path::answer::path_answer;
 use path::link_point::LinkPoint;
 use path::link_point::add_counts;
@@ -165,7 +166,7 @@ pub fn cleared(
             &mut *districts,
         );
         return PathAnswer {
-            answer: asked(12, true),
+            answer: done(),
             path: p,
         };
     }

@@ -7,6 +7,7 @@ use lookup::path_res_coeff::coeff_in;
 use lookup::path_res_coeff::coeffs_finite;
 use lookup::search::find;
 use path::answer::asked;
+use path::answer::done;
 use path::path_tpc::Answer;
 use si::Length;
 use si::Ratio;
@@ -59,7 +60,7 @@ pub fn answer_of(found: Found) -> Searched
 {
     match found {
         Found::At(idx) => Searched {
-            answer: asked(0, true),
+            answer: done(),
             idx,
         },
         Found::NotFinite => Searched {

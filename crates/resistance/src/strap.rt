@@ -9,6 +9,7 @@ use lookup::lin_search_hint::Dir;
 use lookup::path_res_coeff::calc_res_val;
 use lookup::path_res_coeff::coeff_in;
 use path::answer::asked;
+use path::answer::done;
 use path::path_tpc::Answer;
 use si::Force;
 use si::Length;
@@ -70,7 +71,7 @@ fn moved_to(idx_front: usize, idx_back: usize, one: bool) -> Moved
     ensures { λ r. ⌜ r ≡ spec.movedTo «idx_front» «idx_back» one ⌝ }
 {
     Moved {
-        answer: asked(0, true),
+        answer: done(),
         strap: Strap {
             idx_front,
             idx_back,
@@ -172,7 +173,7 @@ pub fn new_known(col: &[f64], n: usize, state: TrainState) -> StrapAnswer
     };
     if n <= 1 {
         return StrapAnswer {
-            answer: asked(0, true),
+            answer: done(),
             strap: none,
         };
     }
@@ -326,7 +327,7 @@ pub fn fix_cache(strap: Strap, sub: usize) -> StrapAnswer
         };
     }
     StrapAnswer {
-        answer: asked(11, true),
+        answer: done(),
         strap: Strap {
             idx_front: strap.idx_front - sub,
             idx_back: strap.idx_back - sub,

@@ -2,6 +2,7 @@
 use crate::train_state::TrainState;
 use crate::train_state::state_finite;
 use path::answer::asked;
+use path::answer::done;
 use path::answer::path_answer;
 use path::link_point::LinkPoint;
 use path::link_point::link_point_at;
@@ -74,7 +75,7 @@ fn located_among(s: TrainState, offsets: &[f64], numbers: &[u32], n: usize) -> L
     }
     let back = point_behind(offsets, numbers, n, Length(s.offset_back.0));
     Located {
-        answer: asked(8, true),
+        answer: done(),
         link_idx_front: front.link_idx,
         link_idx_back: back.link_idx,
         offset_in_link: Length(in_link),

@@ -13,8 +13,8 @@ zero-rest-requires c κs =
     let l = columns (a .offsets .now) (a .numbers .now) (a .grades .now) (a .curves .now) (a .speeds .now) (a .powers .now) (a .districts .now) in
     sound-within (a .p) l (c .before .before .before .before .before .before .before .before .before .before .before .before .before .before .before .pre .0) .1
 
-asked-requires : tie.Need-asked-requires
-asked-requires c κs = search needs
+done-requires : tie.Need-done-requires
+done-requires c κs = search needs
 
 same-length : tie.Need-same-length
 same-length c = c .before .before .before .before .before .before .before .before .before .before .before .before .before .before .offsets .given
@@ -41,7 +41,7 @@ returns : tie.Need-returns
 returns c =
     let a = c .before .before .before .before .before .before .before .before .before .before .before .before .before .before .before .before .before .before .before .before .before .before .before .before .before .before .before .before .before .before .before .args in
     let l = columns (a .offsets .now) (a .numbers .now) (a .grades .now) (a .curves .now) (a .speeds .now) (a .powers .now) (a .districts .now) in
-    none-go (a .p) l (a .d) (c .before .before .before .before .before .before .before .before .before .before .before .before .before .before .before .before .before .before .before .before .before .before .before .if1 .taken) (c .asked .ensures) (c .before .before .before .before .before .before .before .before .before .before .before .before .before .before .before .zero-rest .ensures)
+    none-go (a .p) l (a .d) (c .before .before .before .before .before .before .before .before .before .before .before .before .before .before .before .before .before .before .before .before .before .before .before .if1 .taken) (c .done .ensures) (c .before .before .before .before .before .before .before .before .before .before .before .before .before .before .before .zero-rest .ensures)
 
 cut-requires : tie.Need-cut-requires
 cut-requires c κs = search needs
@@ -78,7 +78,7 @@ cleared-spec =
     tie.close
     (tie.spec
     zero-rest-requires
-    asked-requires
+    done-requires
     same-length
     same-length-2
     same-length-3

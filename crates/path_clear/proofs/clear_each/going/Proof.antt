@@ -58,14 +58,14 @@ loop-again c =
       going-next ps (a .xs .now) (l .gone) (l .k) (l .inv .2) h refl asked (c .before .if1 .left) m,
     )
 
-asked-requires : tie.Need-asked-requires Inv-loop μ-loop
-asked-requires c κs = search needs
+done-requires : tie.Need-done-requires Inv-loop μ-loop
+done-requires c κs = search needs
 
 returns-2 : tie.Need-returns-2 Inv-loop μ-loop
 returns-2 c =
     let a = c .before .before .before .before .before .before .args in
     let l = c .before .before .loop in
-    going-all (linkPoints (a .n) (a .offsets .now) (a .numbers .now)) (a .xs .now) (l .gone) (l .k) (l .inv .2) (c .before .loop-test .left) (c .asked .ensures)
+    going-all (linkPoints (a .n) (a .offsets .now) (a .numbers .now)) (a .xs .now) (l .gone) (l .k) (l .inv .2) (c .before .loop-test .left) (c .done .ensures)
 
 pub going-spec : {M : Type 1} → statement M
 going-spec =
@@ -82,5 +82,5 @@ going-spec =
     add-k
     loop-less
     loop-again
-    asked-requires
+    done-requires
     returns-2)

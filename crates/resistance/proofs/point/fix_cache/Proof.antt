@@ -12,13 +12,13 @@ returns c =
     let a = c .before .before .before .args in
     fix-refused (a .point) (a .sub) (c .before .if1 .taken) (c .asked .ensures)
 
-asked-requires-2 : tie.Need-asked-requires-2
-asked-requires-2 c κs = search needs
+done-requires : tie.Need-done-requires
+done-requires c κs = search needs
 
 returns-2 : tie.Need-returns-2
 returns-2 c =
     let a = c .before .before .before .before .args in
-    fix-done (a .point) (a .sub) (c .before .before .if1 .left) (c .before .asked2 .ensures)
+    fix-done (a .point) (a .sub) (c .before .before .if1 .left) (c .before .done .ensures)
 
 pub fix-cache-spec : {M : Type 1} → statement M
-fix-cache-spec = tie.close (tie.spec asked-requires returns asked-requires-2 returns-2)
+fix-cache-spec = tie.close (tie.spec asked-requires returns done-requires returns-2)

@@ -20,15 +20,15 @@ returns-2 c =
     let a = c .before .before .before .before .before .args in
     fix-front (a .strap) (a .sub) (c .before .before .before .if1 .left) (c .before .if2 .taken) (c .asked2 .ensures)
 
-asked-requires-3 : tie.Need-asked-requires-3
-asked-requires-3 c κs = search needs
+done-requires : tie.Need-done-requires
+done-requires c κs = search needs
 
 returns-3 : tie.Need-returns-3
 returns-3 c =
     let a = c .before .before .before .before .before .before .before .args in
-    fix-done (a .strap) (a .sub) (c .before .before .before .before .before .if1 .left) (c .before .before .before .if2 .left) (c .before .before .asked3 .ensures)
+    fix-done (a .strap) (a .sub) (c .before .before .before .before .before .if1 .left) (c .before .before .before .if2 .left) (c .before .before .done .ensures)
 
 pub fix-cache-spec : {M : Type 1} → statement M
 fix-cache-spec =
     tie.close
-    (tie.spec asked-requires returns asked-requires-2 returns-2 asked-requires-3 returns-3)
+    (tie.spec asked-requires returns asked-requires-2 returns-2 done-requires returns-3)

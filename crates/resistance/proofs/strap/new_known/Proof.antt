@@ -6,24 +6,24 @@ use borrow.Author.Needs.{needs}
 use Rattle.resistance.proofs.strap.new_known.Statement.{statement}
 use Rattle.resistance.proofs.strap.new_known.Tie as tie
 
-asked-requires : tie.Need-asked-requires
-asked-requires c κs = search needs
+done-requires : tie.Need-done-requires
+done-requires c κs = search needs
 
 returns : tie.Need-returns
 returns c =
     let a = c .before .before .before .args in
-    new-single (a .state) (a .n) (a .col .now) (c .before .if1 .taken) (c .asked .ensures)
+    new-single (a .state) (a .n) (a .col .now) (c .before .if1 .taken) (c .done .ensures)
 
 is-finite-requires : tie.Need-is-finite-requires
 is-finite-requires c κs = search needs
 
-asked-requires-2 : tie.Need-asked-requires-2
-asked-requires-2 c κs = search needs
+asked-requires : tie.Need-asked-requires
+asked-requires c κs = search needs
 
 returns-2 : tie.Need-returns-2
 returns-2 c =
     let a = c .before .before .before .before .before .before .args in
-    new-8 (a .state) (a .n) (a .col .now) (c .before .before .before .before .if1 .left) (sym (c .before .before .is-finite .ensures) ∙ not-true _ (c .before .if2 .taken)) (c .asked2 .ensures)
+    new-8 (a .state) (a .n) (a .col .now) (c .before .before .before .before .if1 .left) (sym (c .before .before .is-finite .ensures) ∙ not-true _ (c .before .if2 .taken)) (c .asked .ensures)
 
 search-requires : tie.Need-search-requires
 search-requires c κs = search needs
@@ -50,10 +50,10 @@ pub new-known-spec : {M : Type 1} → statement M
 new-known-spec =
     tie.close
     (tie.spec
-    asked-requires
+    done-requires
     returns
     is-finite-requires
-    asked-requires-2
+    asked-requires
     returns-2
     search-requires
     returns-3

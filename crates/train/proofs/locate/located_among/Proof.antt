@@ -26,13 +26,13 @@ returns c =
 point-behind-requires-2 : tie.Need-point-behind-requires-2
 point-behind-requires-2 c κs = search needs
 
-asked-requires-2 : tie.Need-asked-requires-2
-asked-requires-2 c κs = search needs
+done-requires : tie.Need-done-requires
+done-requires c κs = search needs
 
 returns-2 : tie.Need-returns-2
 returns-2 c =
     let a = c .before .before .before .before .before .before .before .before .before .args in
-    among-done (a .s) (linkPoints (a .n) (a .offsets .now) (a .numbers .now)) (c .before .before .before .before .before .before .point-behind .ensures) (c .before .before .before .is-finite .ensures) (not-false _ (c .before .before .if1 .left)) (c .before .point-behind2 .ensures) (c .asked2 .ensures)
+    among-done (a .s) (linkPoints (a .n) (a .offsets .now) (a .numbers .now)) (c .before .before .before .before .before .before .point-behind .ensures) (c .before .before .before .is-finite .ensures) (not-false _ (c .before .before .if1 .left)) (c .before .point-behind2 .ensures) (c .done .ensures)
 
 pub located-among-spec : {M : Type 1} → statement M
 located-among-spec =
@@ -44,5 +44,5 @@ located-among-spec =
     located-as-before-requires
     returns
     point-behind-requires-2
-    asked-requires-2
+    done-requires
     returns-2)
