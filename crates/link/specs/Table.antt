@@ -60,18 +60,22 @@ tableOf links lengths sets elevs headings limits codes values powers districts =
       districts = districts;
     }
 
--- the table of a call as a contract names it: where a `requires` speaks, and as it came
-abbrev pub tableNow : RefT (List ℕ) → RefT (List Float) → RefT (List ℕ) → RefT (List Float) → RefT (List Float) → RefT (List Float) → RefT (List ℕ) → RefT (List Float) → RefT (List Float) → RefT (List ℕ) → LinkTable
+-- a column of a call as a `requires` names it, and a lent one as an `ensures` does: as it came and as it is left
+abbrev pub Seen : Type 0 → Type 0
+Seen A = RefT (List A)
+
+abbrev pub Lent : Type 0 → Type 0
+Lent A = Both (Seen A) (Seen A)
+
+-- the table of a call: in a `requires`, and as it came
+abbrev pub tableNow : Seen ℕ → Seen Float → Seen ℕ → Seen Float → Seen Float → Seen Float → Seen ℕ → Seen Float → Seen Float → Seen ℕ → LinkTable
 tableNow links lengths sets elevs headings limits codes values powers districts =
     tableOf (links .now) (lengths .now) (sets .now) (elevs .now) (headings .now) (limits .now) (codes .now) (values .now) (powers .now) (districts .now)
 
--- a lent column, as it came and as it is left
-abbrev pub Lent : Type 0 → Type 0
-Lent A = Both (RefT (List A)) (RefT (List A))
-
 abbrev pub tableBefore : Lent ℕ → Lent Float → Lent ℕ → Lent Float → Lent Float → Lent Float → Lent ℕ → Lent Float → Lent Float → Lent ℕ → LinkTable
 tableBefore links lengths sets elevs headings limits codes values powers districts =
-    tableNow (links .entry) (lengths .entry) (sets .entry) (elevs .entry) (headings .entry) (limits .entry) (codes .entry) (values .entry) (powers .entry) (districts .entry)
+    tableNow (links .entry) (lengths .entry) (sets .entry) (elevs .entry) (headings .entry) (limits .entry) (codes .entry) (values .entry)
+    (powers .entry) (districts .entry)
 
 -- ---- records of the pools
 

@@ -5,7 +5,6 @@ use mathlib.Core.List.{List, [], _∷_, map}
 use lib.Dec.{leb}
 use lib.ListN.{length, getD, take, drop}
 use lib.Ieee.{Float}
-use denote.Ref.{RefT}
 use Rattle.ieee.specs.Number.{+0}
 use Rattle.column.specs.declared.Three.{Three}
 use Rattle.column.specs.declared.Four.{Four}
@@ -15,7 +14,7 @@ use Rattle.speed.specs.Points.{Point}
 use Rattle.speed.specs.Column.{pair, points}
 use Rattle.lookup.specs.declared.path_res_coeff.PathResCoeff.{PathResCoeff}
 use Rattle.lookup.specs.Coeff.{triple, coeffs, noCoeff}
-use Rattle.link.specs.Table.{Lent, PowerLimit, powerAt}
+use Rattle.link.specs.Table.{Seen, Lent, PowerLimit, powerAt}
 use Rattle.path.specs.declared.path_tpc.PathTpc.{PathTpc}
 use Rattle.path.specs.declared.link_point.LinkPoint.{LinkPoint}
 
@@ -38,8 +37,8 @@ abbrev pub columns : List Float → List ℕ → List Float → List Float → L
 columns offsets numbers grades curves speeds powers districts =
     record { offsets = offsets; numbers = numbers; grades = grades; curves = curves; speeds = speeds; powers = powers; districts = districts }
 
--- the columns of a call as a contract names them: where a `requires` speaks, as they came, and as they are left
-abbrev pub columnsNow : RefT (List Float) → RefT (List ℕ) → RefT (List Float) → RefT (List Float) → RefT (List Float) → RefT (List Float) → RefT (List ℕ) → Columns
+-- the columns of a call: in a `requires`, as they came, and as they are left
+abbrev pub columnsNow : Seen Float → Seen ℕ → Seen Float → Seen Float → Seen Float → Seen Float → Seen ℕ → Columns
 columnsNow offsets numbers grades curves speeds powers districts =
     columns (offsets .now) (numbers .now) (grades .now) (curves .now) (speeds .now) (powers .now) (districts .now)
 

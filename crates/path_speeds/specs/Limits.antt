@@ -7,7 +7,6 @@ use lib.ListN as list
 use lib.Ieee as Ieee
 use lib.Ieee.{Float}
 use lib.Ieee.Scale.{finite}
-use denote.Ref.{RefT}
 use Rattle.ieee.specs.Number.{+0, _⊕_}
 use Rattle.speed.specs.Points.{Point}
 use Rattle.speed.specs.Insert.{insertSpeed}
@@ -18,7 +17,7 @@ use Rattle.link.specs.declared.speed_set.SetFound.the-variants.{Found, Missing}
 use Rattle.link.specs.Lists.{every}
 use Rattle.link.specs.Train.{topSpeed}
 use Rattle.link.specs.Condition.{applies}
-use Rattle.link.specs.Table.{Lent, LinkTable, Limit, setAt, setFor, conditionsOf, limitsOf}
+use Rattle.link.specs.Table.{Seen, Lent, LinkTable, Limit, setAt, setFor, conditionsOf, limitsOf}
 use Rattle.path.specs.declared.link_point.LinkPoint.{LinkPoint}
 use Rattle.path.specs.Records.{offsetOf, numberOf}
 
@@ -104,8 +103,8 @@ pub record SpeedSets : Type 0 where
 abbrev pub speedSets : List ℕ → List ℕ → List Float → List Float → SpeedSets
 speedSets places codes values limits = record { places = places; codes = codes; values = values; limits = limits }
 
--- the speed sets of a call as a contract names them: where a `requires` speaks, and as they came
-abbrev pub speedSetsNow : RefT (List ℕ) → RefT (List ℕ) → RefT (List Float) → RefT (List Float) → SpeedSets
+-- the speed sets of a call: in a `requires`, and as they came
+abbrev pub speedSetsNow : Seen ℕ → Seen ℕ → Seen Float → Seen Float → SpeedSets
 speedSetsNow places codes values limits = speedSets (places .now) (codes .now) (values .now) (limits .now)
 
 abbrev pub speedSetsBefore : Lent ℕ → Lent ℕ → Lent Float → Lent Float → SpeedSets
