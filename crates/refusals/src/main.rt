@@ -5,7 +5,7 @@ mod answers; // answers as they are printed
 mod searches; // searches in a list of records
 mod points; // Point on a list
 mod straps; // Strap on a list, and its walk over many positions
-mod paths; // positions and lists of trims on a path
+mod paths; // positions, posted speeds and lists of trims on a path
 mod tables; // questions 4 to 7 of a link table
 
 use route::fields::bytes_at;

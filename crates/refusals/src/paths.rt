@@ -1,6 +1,7 @@
-// Positions and lists of trims on a path: its record is the column `counts`, its seven columns are named as the calls name them.
+// Positions, posted speeds and lists of trims on a path: its record is the column `counts`, its seven columns are named as the calls name them.
 use crate::answers::answer;
 use crate::answers::reals;
+use crate::answers::thousandths;
 use crate::answers::wholes;
 use crate::columns;
 use crate::columns::cut_reals;
@@ -46,31 +47,107 @@ fn state_at(text: &[u8], above: &[usize], at: usize) -> TrainState {
     }
 }
 
-// position TRAIN FRONT BACK LINK LINK OFFSET
-fn locate(text: &[u8], above: &[usize], at: usize) {
-    let offsets = columns::reals(text, above, b"offsets");
-    let numbers = columns::wholes(text, above, b"numbers");
-    let grades = columns::reals(text, above, b"grades");
-    let curves = columns::reals(text, above, b"curves");
-    let speeds = columns::reals(text, above, b"speeds");
-    let powers = columns::reals(text, above, b"powers");
-    let districts = columns::wholes(text, above, b"districts");
+// The position s on the path.
+fn locate(
+    s: TrainState,
+    p: PathTpc,
+    offsets: &[f64],
+    numbers: &[u32],
+    grades: &[f64],
+    curves: &[f64],
+    speeds: &[f64],
+    powers: &[f64],
+    districts: &[u32],
+) {
     let r = train::set_link_and_offset::with_link_and_offset(
-        state_at(text, above, at),
-        record(text, above),
-        lent_reals(text, above, b"offsets", &offsets),
-        lent_wholes(text, above, b"numbers", &numbers),
-        lent_reals(text, above, b"grades", &grades),
-        lent_reals(text, above, b"curves", &curves),
-        lent_reals(text, above, b"speeds", &speeds),
-        lent_reals(text, above, b"powers", &powers),
-        lent_wholes(text, above, b"districts", &districts),
+        s,
+        p,
+        offsets,
+        numbers,
+        grades,
+        curves,
+        speeds,
+        powers,
+        districts,
     );
     let s = r.state;
     answer(r.answer);
     count(s.link_idx_front as usize);
     count(s.link_idx_back as usize);
-    crate::answers::thousandths(s.offset_in_link.0);
+    thousandths(s.offset_in_link.0);
+}
+
+// The speed posted at x.
+fn posted(
+    x: f64,
+    p: PathTpc,
+    offsets: &[f64],
+    numbers: &[u32],
+    grades: &[f64],
+    curves: &[f64],
+    speeds: &[f64],
+    powers: &[f64],
+    districts: &[u32],
+) {
+    let r = path_posted::posted_speed::posted_speed(
+        p,
+        Length(x),
+        offsets,
+        numbers,
+        grades,
+        curves,
+        speeds,
+        powers,
+        districts,
+    );
+    answer(r.answer);
+    thousandths(r.speed.0);
+}
+
+// position TRAIN FRONT BACK LINK LINK OFFSET, or posted OFFSET
+fn read(text: &[u8], above: &[usize], at: usize, speed: bool) {
+    let p = record(text, above);
+    let o = columns::reals(text, above, b"offsets");
+    let n = columns::wholes(text, above, b"numbers");
+    let g = columns::reals(text, above, b"grades");
+    let c = columns::reals(text, above, b"curves");
+    let v = columns::reals(text, above, b"speeds");
+    let w = columns::reals(text, above, b"powers");
+    let d = columns::wholes(text, above, b"districts");
+    let offsets = lent_reals(text, above, b"offsets", &o);
+    let numbers = lent_wholes(text, above, b"numbers", &n);
+    let grades = lent_reals(text, above, b"grades", &g);
+    let curves = lent_reals(text, above, b"curves", &c);
+    let speeds = lent_reals(text, above, b"speeds", &v);
+    let powers = lent_reals(text, above, b"powers", &w);
+    let districts = lent_wholes(text, above, b"districts", &d);
+    if speed {
+        let x = real_at(text, at, 1);
+        posted(
+            x,
+            p,
+            offsets,
+            numbers,
+            grades,
+            curves,
+            speeds,
+            powers,
+            districts,
+        );
+        return;
+    }
+    let s = state_at(text, above, at);
+    locate(
+        s,
+        p,
+        offsets,
+        numbers,
+        grades,
+        curves,
+        speeds,
+        powers,
+        districts,
+    );
 }
 
 // The answer to a list of trims, the counts of the path's record and those of the links that went.
@@ -189,7 +266,9 @@ fn trims(text: &[u8], above: &[usize], xs: &[f64]) {
 pub fn row(text: &[u8], above: &[usize], at: usize) -> bool {
     let mut xs = [0.0; 256];
     if begins(text, above, at, b"position", b"rxxnnx") {
-        locate(text, above, at);
+        read(text, above, at, false);
+    } else if begins(text, above, at, b"posted", b"x") {
+        read(text, above, at, true);
     } else if begins(text, above, at, b"trims", b"X") {
         let n = columns::reals_from(text, columns::Place(at, 1), &mut xs);
         trims(text, above, cut_reals(&xs, n));

@@ -7,10 +7,10 @@ use Rattle.refusals.proofs.run.Statement.{statement}
 use Rattle.refusals.proofs.run.Tie as tie
 
 abbrev Inv-loop : tie.InvT-loop
-Inv-loop text above₀ s₀ at₀ above s at = length above ≡ length above₀
+Inv-loop text above₀ s₀ at₀ t5 t6 t7 above s at = length above ≡ length above₀
 
 abbrev μ-loop : tie.MeasureT-loop
-μ-loop text above₀ s₀ at₀ above s at = length text - at
+μ-loop text above₀ s₀ at₀ t5 t6 t7 above s at = length text - at
 
 loop-holds : tie.Need-loop-holds Inv-loop μ-loop
 loop-holds c = search needs
