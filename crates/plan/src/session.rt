@@ -27,6 +27,7 @@ use crate::words::begins;
 use crate::words::outcome;
 use crate::words::told;
 use link::train_params::TrainParams;
+use path::path_tpc::Answer;
 use path::path_tpc::PathTpc;
 use route::fields::float_at;
 use route::fill::train_of;
@@ -295,7 +296,20 @@ fn behind(kind: u32, s: Session, step: Step, history: History) -> Session {
     }
 }
 
-// A call that may change the path, and its answer in words.
+// No call that may change the path: as a refused one.
+fn not_made(path: PathTpc) -> Step {
+    Step {
+        answer: Answer {
+            number: 1,
+            place: 0,
+        },
+        path,
+        grades: 0,
+        curves: 0,
+    }
+}
+
+// A call that may change the path, and its answer in words; nothing where the line has none.
 fn made(
     text: &[u8],
     at: usize,
@@ -322,6 +336,9 @@ fn made(
     link_districts: &[u32],
 ) -> Step {
     let before = s.path;
+    if (kind < NEW) | (REINDEX < kind) {
+        return not_made(before);
+    }
     let x = Length(float_at(text, at, 1));
     let mut list = [0u32; 1025];
     let n = list_of(text, at, &mut list);
@@ -354,81 +371,6 @@ fn made(
     step
 }
 
-// A call that may change the path, and what was joined by it.
-fn changed(
-    text: &[u8],
-    at: usize,
-    kind: u32,
-    svg: bool,
-    train: TrainParams,
-    s: Session,
-    offsets: &mut Offsets,
-    numbers: &mut Numbers,
-    grades: &mut Grades,
-    curves: &mut Curves,
-    speeds: &mut Speeds,
-    powers: &mut Powers,
-    districts: &mut Districts,
-    links: &[u32],
-    lengths: &[f64],
-    sets: &[u32],
-    elevs: &[f64],
-    headings: &[f64],
-    limits: &[f64],
-    codes: &[u32],
-    values: &[f64],
-    link_powers: &[f64],
-    link_districts: &[u32],
-    boards: &mut Boards,
-    tags: &mut Tags,
-    borders: &mut Borders,
-    heights: &mut Heights,
-) -> Session {
-    let step = made(
-        text,
-        at,
-        kind,
-        svg,
-        train,
-        s,
-        &mut *offsets,
-        &mut *numbers,
-        &mut *grades,
-        &mut *curves,
-        &mut *speeds,
-        &mut *powers,
-        &mut *districts,
-        links,
-        lengths,
-        sets,
-        elevs,
-        headings,
-        limits,
-        codes,
-        values,
-        link_powers,
-        link_districts,
-    );
-    let h = joined(
-        kind,
-        s,
-        step,
-        train,
-        &*offsets,
-        &*numbers,
-        &*grades,
-        sets,
-        limits,
-        codes,
-        values,
-        &mut *boards,
-        &mut *tags,
-        &mut *borders,
-        &mut *heights,
-    );
-    behind(kind, s, step, h)
-}
-
 // The table of stretches.
 fn show_table(s: Session, train: TrainParams, speeds: &Speeds, boards: &Boards, tags: &Tags) {
     let p = s.path;
@@ -443,11 +385,12 @@ fn show_table(s: Session, train: TrainParams, speeds: &Speeds, boards: &Boards, 
     );
 }
 
-// A call that reads the path.
+// A call that reads the path, which a picture leaves out.
 fn looked(
     text: &[u8],
     at: usize,
     kind: u32,
+    svg: bool,
     train: TrainParams,
     mut s: Session,
     offsets: &Offsets,
@@ -460,6 +403,9 @@ fn looked(
     boards: &Boards,
     tags: &Tags,
 ) -> Session {
+    if svg | (kind <= REINDEX) {
+        return s;
+    }
     let p = s.path;
     begins(s.line, kind);
     if kind == SHOW {
@@ -536,46 +482,55 @@ fn turn(
 ) -> Session {
     let kind = kind_of(text, at);
     let s = at_line(kind, before);
-    if (NEW <= kind) & (kind <= REINDEX) {
-        return changed(
-            text,
-            at,
-            kind,
-            svg,
-            train,
-            s,
-            &mut *offsets,
-            &mut *numbers,
-            &mut *grades,
-            &mut *curves,
-            &mut *speeds,
-            &mut *powers,
-            &mut *districts,
-            links,
-            lengths,
-            sets,
-            elevs,
-            headings,
-            limits,
-            codes,
-            values,
-            link_powers,
-            link_districts,
-            &mut *boards,
-            &mut *tags,
-            &mut *borders,
-            &mut *heights,
-        );
-    }
-    if svg | (kind < NEW) {
-        return s;
-    }
+    let step = made(
+        text,
+        at,
+        kind,
+        svg,
+        train,
+        s,
+        &mut *offsets,
+        &mut *numbers,
+        &mut *grades,
+        &mut *curves,
+        &mut *speeds,
+        &mut *powers,
+        &mut *districts,
+        links,
+        lengths,
+        sets,
+        elevs,
+        headings,
+        limits,
+        codes,
+        values,
+        link_powers,
+        link_districts,
+    );
+    let h = joined(
+        kind,
+        s,
+        step,
+        train,
+        &*offsets,
+        &*numbers,
+        &*grades,
+        sets,
+        limits,
+        codes,
+        values,
+        &mut *boards,
+        &mut *tags,
+        &mut *borders,
+        &mut *heights,
+    );
     looked(
         text,
         at,
         kind,
+        svg,
         train,
-        s,
+        behind(kind, s, step, h),
         &*offsets,
         &*numbers,
         &*grades,

@@ -1,4 +1,4 @@
--- `with_links`:
+-- `with_links`: the last link's number is at most 1024, so the numbers of entries do not wrap.
 use borrow.Author.Needs.{needs}
 use Rattle.plan.proofs.columns.with_links.Statement.{statement}
 use Rattle.plan.proofs.columns.with_links.Tie as tie
