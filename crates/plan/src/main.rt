@@ -1,8 +1,6 @@
 // The planner: reads route files, runs their calls and shows each run as a table of stretches, or as a picture behind --svg.
-mod words; // answers, refusals and faults in words
 mod original; // what the original Rust posts behind a drop
 mod changes; // calls that may change the path
-mod reads; // calls that read it
 mod session; // one call after another
 mod columns; // the columns that a run needs
 
@@ -22,7 +20,7 @@ fn plan_text(name: &[u8], text: &[u8], svg: bool) {
     }
     let seen = judge(text);
     if seen.fault != FINE {
-        words::fault(name, seen);
+        messages::lines::fault(name, seen);
         return;
     }
     columns::with_table(text, seen, svg);

@@ -1,7 +1,7 @@
 // The calls that read the path, as lines of a route.
-use crate::words::outcome;
 use link::train_params::TrainParams;
 use lookup::lin_search_hint::Dir;
+use messages::outcomes::outcome;
 use path::path_tpc::Answer;
 use path::path_tpc::PathTpc;
 use path_link_records::link_records::link_range;
