@@ -126,8 +126,6 @@ fn posted(
     if outcome(r.answer) {
         say(b": ");
         real(r.speed.0);
-        say(b" posted at ");
-        real(x);
         say(b"\n");
     }
 }
