@@ -1,9 +1,10 @@
 -- From a column's entries to its records and back, for any layout: each change of entries is the change of a list of records.
 use Prim.Native.Nat.{ℕ, zero, suc, _+_, _-_, _*_, _≤_, _<_}
-use native.Mathlib.Nat.{mul-zero, mul-suc, sub-zero, not-suc-le-zero, le-of-suc-le-suc}
+use native.Mathlib.Nat.{add-zero, mul-zero, mul-one, mul-suc, mul-add, sub-zero, not-suc-le-zero, le-of-suc-le-suc}
+use native.Mathlib.Numerals.{add-one}
 use native.Mathlib.Omega.{arith}
-use mathlib.Core.Path.{_≡_, refl, sym, ap, ap₂, _∙_}
-use mathlib.Core.List.{List, [], _∷_, _++_, map, append-assoc}
+use mathlib.Core.Path.{_≡_, refl, sym, ap, ap₂, _∙_, subst}
+use mathlib.Core.List.{List, [], _∷_, _++_, map, append-assoc, append-nil}
 use lib.ListN.{length, take, drop, getD, set, replicate, length-append, length-drop, length-replicate, take-append-drop, replicate-append-replicate}
 use lib.Seq.{slice, sets, sets-eq, drop-append-add, take-append-add, take-at, drop-at, drop-drop, set-split, split-at, take-add, take-length, drop-length, length-take-le}
 use lib.Ieee.{Float}
@@ -28,6 +29,13 @@ module _ {A : Type 0} where
       sets-eq v (x ++ (y ++ t)) k long
       ∙ ap₂ (λ (a b : List A). a ++ v ++ b) (take-at x (y ++ t) k e) (ap (λ (j : ℕ). drop j (x ++ (y ++ t))) m ∙ drop-append-add x (y ++ t) (length v) ∙ drop-at y t (length v) f)
       ∙ append-assoc x v t
+
+  -- two runs of entries stored, one behind the other
+  sets-append : (c : List A) (k : ℕ) (a b : List A) → sets c k (a ++ b) ≡ sets (sets c k a) (k + length a) b
+  sets-append c k [] b = ap (λ (j : ℕ). sets c j b) (sym (add-zero k))
+  sets-append c k (x ∷ a) b =
+      let e : suc k + length a ≡ k + suc (length a) = omega arith in
+      sets-append (set c k x) (suc k) a b ∙ ap (λ (j : ℕ). sets (sets (set c k x) (suc k) a) j b) e
 
   middle : (x y t : List A) (i k : ℕ) → length x ≡ i → i + length y ≡ k → slice i k (x ++ (y ++ t)) ≡ y
   middle x y t i k e f =
@@ -171,39 +179,42 @@ module _ {A R : Type 0} (L : Layout A R) (ok : Lawful L) where
         ∙ write-between (take i rs) (drop (suc i) rs) (getD rs i r) r i (length-take-le i rs (omega arith))
         ∙ ap (λ (l : List R). filled z n (flat L l)) (sym (set-split rs i r h))
 
-    -- ---- a record goes in
-    -- the gap, and what stands in it
-    gap-between : (xs ys : List R) (i k : ℕ) → length xs ≡ i → length (xs ++ ys) ≡ k → L .width * suc k ≤ n
-        → openGap (L .width * i) (L .width * k) (L .width) (filled z n (flat L (xs ++ ys)))
-        ≡ flat L xs ++ (take (L .width) (flat L ys ++ pad k) ++ (flat L ys ++ drop (L .width) (pad k)))
+    -- ---- records go in
+    -- a gap of g entries, and what stands in it
+    gap-between : (xs ys : List R) (i k g : ℕ) → length xs ≡ i → length (xs ++ ys) ≡ k → L .width * k + g ≤ n
+        → openGap (L .width * i) (L .width * k) g (filled z n (flat L (xs ++ ys))) ≡ flat L xs ++ (take g (flat L ys ++ pad k) ++ (flat L ys ++ drop g (pad k)))
     unfolding pad
-    gap-between xs ys i k e f room =
+    gap-between xs ys i k g e f room =
         let w = L .width in
         let x = flat L xs in
         let y = flat L ys in
         let a : length x ≡ w * i = length-flat xs ∙ ap (λ (j : ℕ). w * j) e in
         let b : w * i + length y ≡ w * k = omega (arith, length-append x y, ap length (flat-append xs ys), length-flat (xs ++ ys), ap (λ (j : ℕ). w * j) f) in
-        let s = mul-suc w k in
         let whole : filled z n (flat L (xs ++ ys)) ≡ x ++ (y ++ pad k) = halves xs ys ∙ ap (λ (j : ℕ). x ++ (y ++ pad j)) f in
         let long : length (x ++ (y ++ pad k)) ≡ n = length-append x (y ++ pad k) ∙ omega (arith, length-append y (pad k), length-replicate (n - w * k) z) in
-        ap (openGap (w * i) (w * k) w) whole
-        ∙ open-room (w * i) (w * k) w (x ++ (y ++ pad k)) (omega arith) (omega arith)
-        ∙ gap-open x y (pad k) w (w * i) (w * k) a b
+        ap (openGap (w * i) (w * k) g) whole
+        ∙ open-room (w * i) (w * k) g (x ++ (y ++ pad k)) (omega arith) (omega arith)
+        ∙ gap-open x y (pad k) g (w * i) (w * k) a b
 
-    insert-between : (xs ys : List R) (r : R) (i k : ℕ) → length xs ≡ i → length (xs ++ ys) ≡ k → L .width * suc k ≤ n
-        → putRecord L (openGap (L .width * i) (L .width * k) (L .width) (filled z n (flat L (xs ++ ys)))) i r ≡ filled z n (flat L (xs ++ r ∷ ys))
-    unfolding putRecord pad
-    insert-between xs ys r i k e f room =
+    -- the records qs, stored in a gap between two lists
+    insert-between : (xs qs ys : List R) (i k : ℕ) → length xs ≡ i → length (xs ++ ys) ≡ k → L .width * (k + length qs) ≤ n
+        → sets (openGap (L .width * i) (L .width * k) (L .width * length qs) (filled z n (flat L (xs ++ ys)))) (L .width * i) (flat L qs) ≡ filled z n (flat L (xs ++ (qs ++ ys)))
+    unfolding pad
+    insert-between xs qs ys i k e f room =
         let w = L .width in
-        let s = mul-suc w k in
-        let more : length (xs ++ r ∷ ys) ≡ suc k = length-append xs (r ∷ ys) ∙ omega (arith, length-append xs ys) in
-        let spare : n - w * k - w ≡ n - w * length (xs ++ r ∷ ys) = omega (arith, ap (λ (j : ℕ). w * j) more) in
-        let less : drop w (pad k) ≡ pad (length (xs ++ r ∷ ys)) = drop-zeros w (n - w * k) ∙ ap (λ (j : ℕ). replicate j z) spare in
-        ap (λ (c : List A). sets c (w * i) (L .pack r)) (gap-between xs ys i k e f room)
-        ∙ overwrite (flat L xs) (take w (flat L ys ++ pad k)) (flat L ys ++ drop w (pad k)) (L .pack r) (w * i) (length-flat xs ∙ ap (λ (j : ℕ). w * j) e)
-        (length-take-le w (flat L ys ++ pad k) (omega (arith, length-append (flat L ys) (pad k), length-replicate (n - w * k) z)) ∙ sym (ok .length-pack r))
-        ∙ ap (λ (l : List A). flat L xs ++ (L .pack r ++ (flat L ys ++ l))) less
-        ∙ sym (around xs ys r)
+        let g = w * length qs in
+        let s : w * (k + length qs) ≡ w * k + g = mul-add w k (length qs) in
+        let all = xs ++ (qs ++ ys) in
+        let more : length all ≡ k + length qs = length-append xs (qs ++ ys) ∙ omega (arith, length-append qs ys, length-append xs ys) in
+        let spare : n - w * k - g ≡ n - w * length all = omega (arith, ap (λ (j : ℕ). w * j) more) in
+        let less : drop g (pad k) ≡ pad (length all) = drop-zeros g (n - w * k) ∙ ap (λ (j : ℕ). replicate j z) spare in
+        ap (λ (c : List A). sets c (w * i) (flat L qs)) (gap-between xs ys i k g e f (omega arith))
+        ∙ overwrite (flat L xs) (take g (flat L ys ++ pad k)) (flat L ys ++ drop g (pad k)) (flat L qs) (w * i) (length-flat xs ∙ ap (λ (j : ℕ). w * j) e)
+        (length-take-le g (flat L ys ++ pad k) (omega (arith, length-append (flat L ys) (pad k), length-replicate (n - w * k) z)) ∙ sym (length-flat qs))
+        ∙ ap (λ (l : List A). flat L xs ++ (flat L qs ++ (flat L ys ++ l))) less
+        ∙ sym (ap (λ (l : List A). flat L xs ++ l) (append-assoc (flat L qs) (flat L ys) (pad (length all))))
+        ∙ sym (ap (λ (l : List A). flat L xs ++ (l ++ pad (length all))) (flat-append qs ys))
+        ∙ sym (halves xs (qs ++ ys))
       where
         drop-zeros : (a b : ℕ) → drop a (replicate b z) ≡ replicate (b - a) z
         drop-zeros zero b = ap (λ (j : ℕ). replicate j z) (sym (sub-zero b))
@@ -214,12 +225,40 @@ module _ {A R : Type 0} (L : Layout A R) (ok : Lawful L) where
             let e : suc b - suc a ≡ b - a = omega arith in
             drop-zeros a b ∙ ap (λ (j : ℕ). replicate j z) (sym e)
 
+    insert-all : (rs qs : List R) (i : ℕ) → i ≤ length rs → L .width * (length rs + length qs) ≤ n
+        → sets (openGap (L .width * i) (L .width * length rs) (L .width * length qs) (filled z n (flat L rs))) (L .width * i) (flat L qs)
+        ≡ filled z n (flat L (take i rs ++ (qs ++ drop i rs)))
+    insert-all rs qs i h room =
+        let e = take-append-drop i rs in
+        ap (λ (l : List R). sets (openGap (L .width * i) (L .width * length rs) (L .width * length qs) (filled z n (flat L l))) (L .width * i) (flat L qs)) (sym e)
+        ∙ insert-between (take i rs) qs (drop i rs) i (length rs) (length-take-le i rs h) (ap length e) room
+
+    -- one
     pub insert-filled : (rs : List R) (i : ℕ) (r : R) → i ≤ length rs → L .width * suc (length rs) ≤ n
         → putRecord L (openGap (L .width * i) (L .width * length rs) (L .width) (filled z n (flat L rs))) i r ≡ filled z n (flat L (insertAt i r rs))
+    unfolding putRecord flat
     insert-filled rs i r h room =
-        let e = take-append-drop i rs in
-        ap (λ (l : List R). putRecord L (openGap (L .width * i) (L .width * length rs) (L .width) (filled z n (flat L l))) i r) (sym e)
-        ∙ insert-between (take i rs) (drop i rs) r i (length rs) (length-take-le i rs h) (ap length e) room
+        let w = L .width in
+        let c = filled z n (flat L rs) in
+        ap₂ (λ (g : ℕ) (l : List A). sets (openGap (w * i) (w * length rs) g c) (w * i) l) (sym (mul-one w)) (sym (append-nil (L .pack r)))
+        ∙ insert-all rs (r ∷ []) i h (subst (λ (k : ℕ). w * k ≤ n) (sym (add-one (length rs))) room)
+
+    -- two, in one gap
+    pub insert-two : (rs : List R) (i : ℕ) (p q : R) → i ≤ length rs → L .width * (length rs + 2) ≤ n
+        → putRecord L (putRecord L (openGap (L .width * i) (L .width * length rs) (L .width * 2) (filled z n (flat L rs))) i p) (i + 1) q
+        ≡ filled z n (flat L (insertAt i p (insertAt i q rs)))
+    unfolding putRecord flat
+    insert-two rs i p q h room =
+        let w = L .width in
+        let c = openGap (w * i) (w * length rs) (w * 2) (filled z n (flat L rs)) in
+        let at : w * (i + 1) ≡ w * i + length (L .pack p) = mul-add w i 1 ∙ ap (λ (k : ℕ). w * i + k) (mul-one w ∙ sym (ok .length-pack p)) in
+        let front : take i (insertAt i q rs) ≡ take i rs = take-at (take i rs) (q ∷ drop i rs) i (length-take-le i rs h) in
+        let back : drop i (insertAt i q rs) ≡ q ∷ drop i rs = drop-at (take i rs) (q ∷ drop i rs) i (length-take-le i rs h) in
+        ap (λ (k : ℕ). sets (sets c (w * i) (L .pack p)) k (L .pack q)) at
+        ∙ sym (sets-append c (w * i) (L .pack p) (L .pack q))
+        ∙ ap (λ (l : List A). sets c (w * i) (L .pack p ++ l)) (sym (append-nil (L .pack q)))
+        ∙ insert-all rs (p ∷ q ∷ []) i h room
+        ∙ sym (ap₂ (λ (a b : List R). filled z n (flat L (a ++ p ∷ b))) front back)
 
     -- at the end no gap is needed
     pub push-filled : (rs : List R) (r : R) → L .width * suc (length rs) ≤ n → putRecord L (filled z n (flat L rs)) (length rs) r ≡ filled z n (flat L (rs ++ r ∷ []))
