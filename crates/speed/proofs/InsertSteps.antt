@@ -1,6 +1,6 @@
 -- The steps of `insertSpeed`, each as an equation under the test that leads to it, and the bounds of its searches.
 use mathlib.Core.Path.{_≡_, refl, ap, _∙_, subst}
-use mathlib.Core.Bool.{Bool, true, false, cond}
+use mathlib.Core.Bool.{Bool, true, false, cond, _&&_, false≢true}
 use mathlib.Core.List.{List, [], _∷_, _++_}
 use Prim.Native.Nat.{ℕ, zero, suc, _+_, _-_, _≤_, _<_}
 use native.Mathlib.Nat.{not-suc-le-zero, add-zero}
@@ -15,7 +15,7 @@ use Rattle.ieee.specs.Speed.{minSpeed}
 use Rattle.ieee.proofs.Order.{lt-not-le, of-true}
 use Rattle.column.specs.Entries.{insertAt, removeAt}
 use Rattle.speed.specs.Points.{Point, point, nowhere, offsetAt, speedAt, setSpeed, setOffset, repeats}
-use Rattle.speed.specs.Insert.{nextIndex, nextPoints, dropRepeat, merge, firstFrom, lastFrom, ends, layEnd, layStart, layLimit, appendChange, appendLimit, insertSpeed}
+use Rattle.speed.specs.Insert.{nextIndex, nextPoints, dropRepeat, merge, firstFrom, lastFrom, ends, layEnd, layStart, between, splits, layBetween, layFrom, layLimit, appendChange, appendLimit, insertSpeed}
 
 -- ---- lengths
 
@@ -131,9 +131,27 @@ module _ (s e v : Float) (i j : ℕ) (ps : List Point) where
   unfolding layStart
   start-kept t = rw t
 
-pub limit-laid : (s e v : Float) (ps : List Point) (n : ℕ) → length ps ≡ n → layLimit s e v ps ≡ layStart s e v (firstFrom s ps) (lastFrom e (n - 1) ps) ps
+module _ (s e v : Float) (i : ℕ) (ps : List Point) where
+  pub between-laid : splits s e v i ps ≡ true → layBetween s e v i ps ≡ insertAt i (point s (minSpeed (speedAt ps (i - 1)) v)) (insertAt i (point e (speedAt ps (i - 1))) ps)
+  unfolding layBetween
+  between-laid t = rw t
+
+  pub between-kept : splits s e v i ps ≡ false → layBetween s e v i ps ≡ ps
+  unfolding layBetween
+  between-kept t = rw t
+
+module _ (s e v : Float) (i j : ℕ) (ps : List Point) where
+  pub from-between : between s e i ps ≡ true → layFrom s e v i j ps ≡ layBetween s e v i ps
+  unfolding layFrom
+  from-between t = rw t
+
+  pub from-start : between s e i ps ≡ false → layFrom s e v i j ps ≡ layStart s e v i j ps
+  unfolding layFrom
+  from-start t = rw t
+
+pub limit-from : (s e v : Float) (ps : List Point) (n : ℕ) → length ps ≡ n → layLimit s e v ps ≡ layFrom s e v (firstFrom s ps) (lastFrom e (n - 1) ps) ps
 unfolding layLimit
-limit-laid s e v ps n q = rw q
+limit-from s e v ps n q = rw q
 
 -- ---- a limit past the last point
 
@@ -173,6 +191,16 @@ ends-yes e v j ps t = rw t
 
 pub ends-no : (e v : Float) (j : ℕ) (ps : List Point) → Ieee.lt (offsetAt ps j) e ≡ false → false ≡ ends e v j ps
 ends-no e v j ps t = rw t
+
+pub between-yes : (s e : Float) (i : ℕ) (ps : List Point) → 0 < i → between s e i ps ≡ (Ieee.le s e && Ieee.lt e (offsetAt ps i))
+between-yes s e i ps h = rw (lt-ltb 0 i h)
+
+pub between-no : (s e : Float) (i : ℕ) (ps : List Point) → i ≤ 0 → false ≡ between s e i ps
+between-no s e i ps h = let q : i ≡ 0 = omega arith in rw q
+
+pub between-some : (s e : Float) (i : ℕ) (ps : List Point) → between s e i ps ≡ true → 0 < i
+between-some s e zero ps t = absurd (false≢true t)
+between-some s e (suc i) ps t = omega arith
 
 -- ---- bounds of the searches
 

@@ -12,7 +12,7 @@ use Rattle.column.specs.Entries.{filled, zeroFrom, moveFront, openGap, closeGap
 use Rattle.column.specs.Records.{flat, recordAt, putRecord, two}
 use Rattle.column.proofs.Filling.{getD-within, length-filled, zeros-filled}
 use Rattle.column.proofs.Entry.{two-entries, two-put}
-use Rattle.column.proofs.Bridge.{Lawful, length-records, length-flat, records-flat, record-at, put-filled, push-filled, insert-filled, remove-filled, zero-filled, move-filled}
+use Rattle.column.proofs.Bridge.{Lawful, length-records, length-flat, records-flat, record-at, put-filled, push-filled, insert-filled, insert-two, remove-filled, zero-filled, move-filled}
 use Rattle.speed.specs.Points.{Point, point, nowhere, offsetAt, speedAt, setSpeed, setOffset}
 use Rattle.speed.specs.Column.{pair, points, Holds, Leaves}
 use Rattle.speed.proofs.InsertSteps.{length-inserted, length-removed}
@@ -97,6 +97,20 @@ module _ (c : List Float) (n : ℕ) (held : Holds c (points n c)) where
       (ap (λ (l : List Float). putRecord pair (openGap (2 * i) (2 * n) 2 l) i p) (held .is)
       ∙ ap (λ (k : ℕ). putRecord pair (openGap (2 * i) (2 * k) 2 (filled +0 (length c) (flat pair ps))) i p) (sym l)
       ∙ insert-filled pair pair-lawful +0 (length c) ps i p (omega arith) (omega arith))
+
+  pub two-inserted : (i : ℕ) (r t : Two) → i ≤ n → 2 * (n + 2) ≤ length c
+      → Holds (putRecord two (putRecord two (openGap (2 * i) (2 * n) 4 c) i r) (i + 1) t) (insertAt i (point (r .0) (r .1)) (insertAt i (point (t .0) (t .1)) (points n c)))
+  unfolding putRecord
+  two-inserted i r t h room =
+      let ps = points n c in
+      let l = length-points n c in
+      let p = point (r .0) (r .1) in
+      let q = point (t .0) (t .1) in
+      let put : List Float → List Float = λ d. putRecord pair (putRecord pair d i p) (i + 1) q in
+      holds-of c _ (insertAt i p (insertAt i q ps)) (omega (arith, length-inserted i p (insertAt i q ps), length-inserted i q ps))
+      (ap (λ (d : List Float). put (openGap (2 * i) (2 * n) 4 d)) (held .is)
+      ∙ ap (λ (k : ℕ). put (openGap (2 * i) (2 * k) 4 (filled +0 (length c) (flat pair ps)))) (sym l)
+      ∙ insert-two pair pair-lawful +0 (length c) ps i p q (omega arith) (omega arith))
 
   pub removed : (i : ℕ) → i < n → Holds (closeGap +0 (2 * i) (2 * n) 2 c) (removeAt i (points n c))
   removed i h =

@@ -53,6 +53,21 @@ module _ (x : Float) where
   alike [] t u h = absurd h
   alike (p ∷ ps) t u h = rw (is-true (Ieee.le (p .offset) x) h)
 
+  -- points before one at or before x are so too
+  pub reaches-first : (p : Point) (ps : List Point) → SortedFrom (p .offset) ps → T (reaches x ps) → T (Ieee.le (p .offset) x)
+  reaches-first p [] h r = absurd r
+  reaches-first p (q ∷ ps) h r = le-trans (p .offset) (q .offset) x (h .0) r
+
+  pub reaches-back : (o : Float) (k : ℕ) (ps : List Point) → SortedFrom o ps → T (reaches x (drop k ps)) → T (reaches x ps)
+  reaches-back o zero ps h r = r
+  reaches-back o (suc k) [] h r = r
+  reaches-back o (suc k) (p ∷ ps) h r = reaches-first p ps (h .1) (reaches-back (p .offset) k ps (h .1) r)
+
+  -- points that reach an offset reach every later one
+  pub reaches-on : (y : Float) (ps : List Point) → T (Ieee.le y x) → T (reaches y ps) → T (reaches x ps)
+  reaches-on y [] l h = h
+  reaches-on y (p ∷ ps) l h = le-trans (p .offset) y x h l
+
   -- point i is the last at or before x where it is at or before x and those behind it do not reach x
   pub posted-last : (ps : List Point) (i : ℕ) (u : Float) → Sorted ps → T (Ieee.le (offsetAt ps i) x) → reaches x (drop (suc i) ps) ≡ false → posted x ps u ≡ speedAt ps i
   posted-last [] i u h l f = absurd (le-real-l nan x l)

@@ -2,6 +2,7 @@
 use Prim.Native.Nat.{ℕ, zero, suc, _-_}
 use mathlib.Core.Bool.{Bool, cond, _&&_}
 use mathlib.Core.List.{List, [], _∷_, _++_}
+use lib.Dec.{ltb}
 use lib.ListN.{length}
 use lib.Ieee as Ieee
 use lib.Ieee.{Float}
@@ -66,17 +67,33 @@ layEnd e v i j ps = cond (ends e v j ps) (merge v (suc j - i) i (insertAt (suc j
 abbrev pub starts : Float → Float → ℕ → List Point → Bool
 starts s v i ps = Ieee.lt s (offsetAt ps i) && Ieee.ne (speedAt ps (i - 1)) (minSpeed (speedAt ps (i - 1)) v)
 
--- R23: strictly between two points a limit is not released; point j is then the one that goes in here, and the limit no longer changes its speed
 unfoldable pub layStart : Float → Float → Float → ℕ → ℕ → List Point → List Point
 unfolding layEnd
 layStart s e v i j ps =
     cond (starts s v i ps) (layEnd e v (suc i) (suc j) (insertAt i (point s (minSpeed (speedAt ps (i - 1)) v)) ps)) (layEnd e v i j ps)
 
-unfoldable pub layLimit : Float → Float → Float → List Point → List Point
-unfolding layStart firstFrom lastFrom
-layLimit s e v ps = layStart s e v (firstFrom s ps) (lastFrom e (length ps - 1) ps) ps
+-- R23: the limit lies strictly between point i and the one before it. i is the first point at or after s, so that the one before is before s; e is before i.
+abbrev pub between : Float → Float → ℕ → List Point → Bool
+between s e i ps = ltb 0 i && (Ieee.le s e && Ieee.lt e (offsetAt ps i))
 
--- R21 where the last point is not after s, otherwise R22
+-- the limit has a length, and the speed u of point i - 1 has m(u) ≠ u
+abbrev pub splits : Float → Float → Float → ℕ → List Point → Bool
+splits s e v i ps = Ieee.lt s e && Ieee.ne (speedAt ps (i - 1)) (minSpeed (speedAt ps (i - 1)) v)
+
+-- R23: then (s, m(u)) and (e, u) go in at i; no point goes out
+unfoldable pub layBetween : Float → Float → Float → ℕ → List Point → List Point
+layBetween s e v i ps =
+    cond (splits s e v i ps) (insertAt i (point s (minSpeed (speedAt ps (i - 1)) v)) (insertAt i (point e (speedAt ps (i - 1))) ps)) ps
+
+unfoldable pub layFrom : Float → Float → Float → ℕ → ℕ → List Point → List Point
+unfolding layBetween layStart
+layFrom s e v i j ps = cond (between s e i ps) (layBetween s e v i ps) (layStart s e v i j ps)
+
+unfoldable pub layLimit : Float → Float → Float → List Point → List Point
+unfolding layFrom firstFrom lastFrom
+layLimit s e v ps = layFrom s e v (firstFrom s ps) (lastFrom e (length ps - 1) ps) ps
+
+-- R21 where the last point is not after s; otherwise R23 strictly between two points, and R22 elsewhere
 unfoldable pub insertSpeed : List Point → Float → Float → Float → List Point
 unfolding appendLimit layLimit
 insertSpeed ps s e v = cond (Ieee.le (offsetAt ps (length ps - 1)) s) (appendLimit s e v ps) (layLimit s e v ps)

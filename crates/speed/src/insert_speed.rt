@@ -4,6 +4,7 @@ use crate::speed_limit::min_speed;
 use crate::speed_point::SpeedLimitPoint;
 use crate::speed_point::first_from;
 use crate::speed_point::insert_point;
+use crate::speed_point::insert_two;
 use crate::speed_point::last_from;
 use crate::speed_point::offset_at;
 use crate::speed_point::remove_point;
@@ -20,7 +21,7 @@ ghost use lib.ListN.{length};
 ghost use lib.Ieee as Ieee;
 ghost use Rattle.speed.specs.Points.{offsetAt};
 ghost use Rattle.speed.specs.Column.{points, Holds, Leaves};
-ghost use Rattle.speed.specs.Insert.{dropRepeat, merge, ends, layEnd, layStart, layLimit, appendChange, appendLimit, insertSpeed};
+ghost use Rattle.speed.specs.Insert.{dropRepeat, merge, ends, layEnd, layStart, between, layBetween, layLimit, appendChange, appendLimit, insertSpeed};
 
 // Takes point i out if the point before it has its speed.
 fn drop_repeat(col: &mut [f64], n: usize, i: usize) -> usize
@@ -137,6 +138,49 @@ fn lay_start(col: &mut [f64], n: usize, i: usize, j: usize, l: SpeedLimit) -> us
     lay_end(col, n, i, j, e, v)
 }
 
+// Whether the limit lies strictly between point i, the first at or after its start, and the one before it.
+fn lies_between(col: &[f64], n: usize, i: usize, l: SpeedLimit) -> bool
+    requires { ⌜ i < n ⌝ }
+    requires { ⌜ 2 * n ≤ length (now col) ⌝ }
+    ensures { λ r. ⌜ r ≡ between (l .«offset_start» .0) (l .«offset_end» .0) i (points n (now (col .entry))) ⌝ }
+{
+    if 0 < i {
+        return (l.offset_start.0 <= l.offset_end.0) & (l.offset_end.0 < offset_at(col, n, i).0);
+    }
+    false
+}
+
+// A limit strictly between point i and the one before it: it is released at its end.
+fn lay_between(col: &mut [f64], n: usize, i: usize, l: SpeedLimit) -> usize
+    requires { ⌜ 0 < i ⌝ }
+    requires { ⌜ i < n ⌝ }
+    requires { ⌜ 2 * (n + 2) ≤ length (now col) ⌝ }
+    requires { ⌜ Holds (now col) (points n (now col)) ⌝ }
+    ensures { λ r. ⌜ Leaves (now (col .exit)) r (layBetween (l .«offset_start» .0) (l .«offset_end» .0) (l .speed .0) i (points n (now (col .entry)))) ⌝ }
+{
+    let s = l.offset_start;
+    let e = l.offset_end;
+    let was = speed_at(col, n, i - 1);
+    let low = min_speed(was, l.speed);
+    if !((s.0 < e.0) & (was.0 != low.0)) {
+        return n;
+    }
+    insert_two(
+        col,
+        n,
+        i,
+        SpeedLimitPoint {
+            offset: s,
+            speed_limit: low,
+        },
+        SpeedLimitPoint {
+            offset: e,
+            speed_limit: was,
+        },
+    );
+    n + 2
+}
+
 // A limit whose start lies before the last point.
 fn lay_limit(col: &mut [f64], n: usize, l: SpeedLimit) -> usize
     requires { ⌜ 0 < n ⌝ }
@@ -146,6 +190,9 @@ fn lay_limit(col: &mut [f64], n: usize, l: SpeedLimit) -> usize
     ensures { λ r. ⌜ Leaves (now (col .exit)) r (layLimit (l .«offset_start» .0) (l .«offset_end» .0) (l .speed .0) (points n (now (col .entry)))) ⌝ }
 {
     let i = first_from(col, n, l.offset_start);
+    if lies_between(col, n, i, l) {
+        return lay_between(col, n, i, l);
+    }
     let j = last_from(col, n, l.offset_end);
     lay_start(col, n, i, j, l)
 }

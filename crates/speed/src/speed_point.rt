@@ -63,6 +63,18 @@ pub fn insert_point(col: &mut [f64], n: usize, i: usize, p: SpeedLimitPoint)
     column::floats::put_two(&mut *col, i, Two(p.offset.0, p.speed_limit.0));
 }
 
+// Puts two points in at i, p before q.
+pub fn insert_two(col: &mut [f64], n: usize, i: usize, p: SpeedLimitPoint, q: SpeedLimitPoint)
+    requires { ⌜ i ≤ n ⌝ }
+    requires { ⌜ 2 * (n + 2) ≤ length (now col) ⌝ }
+    requires { ⌜ Holds (now col) (points n (now col)) ⌝ }
+    ensures { λ _. ⌜ Holds (now (col .exit)) (insertAt i (pointOf p) (insertAt i (pointOf q) (points n (now (col .entry))))) ⌝ }
+{
+    column::floats::open_gap(&mut *col, 2 * i, 2 * n, 4);
+    column::floats::put_two(&mut *col, i, Two(p.offset.0, p.speed_limit.0));
+    column::floats::put_two(&mut *col, i + 1, Two(q.offset.0, q.speed_limit.0));
+}
+
 // Takes point i out.
 pub fn remove_point(col: &mut [f64], n: usize, i: usize)
     requires { ⌜ i < n ⌝ }
