@@ -53,7 +53,7 @@ module _ (s e v : Float) (order : T (Ieee.le s e)) where
     last-after =
         let end = point e (q .speed) in
         laid-last (q ∷ []) (q ∷ point s low ∷ end ∷ [])
-        (then (enter q e [] (inr refl) to-e tt) (then (enter q s (end ∷ []) (inl refl) before (order, tt)) (next q (lower (point s (q .speed)) (end ∷ []) (le-refl s (le-real-r (q .offset) s before))))))
+        (then (enter q e [] (inr refl) to-e tt) (then (enter q s (end ∷ []) (inl refl) before (order, tt)) (next q (lower (point s (q .speed)) (end ∷ []) (le-refl s (le-real-r (q .offset) s before)) (le-refl e (le-real-r s e order))))))
         (λ x u o. passes x q u o)
         (λ x u a o f i. rw (not-passed x end (passed x (point s low) (passed x q u)) f, passes x (point s low) (passed x q u) a) i)
 
@@ -63,7 +63,7 @@ module _ (s e v : Float) (order : T (Ieee.le s e)) where
       last-at =
           let end = point e (q .speed) in
           let new = point (q .offset) low in
-          laid-last (q ∷ []) (new ∷ end ∷ []) (then (enter q e [] (inr refl) to-e tt) (lower q (end ∷ []) at)) (λ x u o. passes x q u o)
+          laid-last (q ∷ []) (new ∷ end ∷ []) (then (enter q e [] (inr refl) to-e tt) (lower q (end ∷ []) at (le-refl e (le-real-r s e order)))) (λ x u o. passes x q u o)
           (λ x u a o f i. rw (not-passed x end (passed x new u) f, passes x new u o) i)
 
       -- it moves to e, as the point before it has the low speed

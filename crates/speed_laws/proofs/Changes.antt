@@ -1,5 +1,5 @@
 -- What laying a limit does to a list of points, as a run of small changes of three kinds, and what each such run keeps.
-use mathlib.Core.Path.{_≡_, refl, sym, ap, _∙_, subst}
+use mathlib.Core.Path.{_≡_, refl, sym, _∙_, subst}
 use mathlib.Core.Logic.{_⊎_, inl, inr}
 use mathlib.Core.Bool.{Bool, true, false, not, cond}
 use mathlib.Core.List.{List, [], _∷_}
@@ -13,8 +13,9 @@ use Rattle.ieee.proofs.Order.{le-trans, eq-refl, eq-trans, eq-real-l, ne-is, of
 use Rattle.ieee.proofs.Speed.{minSpeed-cong, minSpeed-again, minSpeed-real}
 use Rattle.speed.specs.Points.{Point, point}
 use Rattle.speed.specs.Posted.{passed, posted, SortedFrom}
-use Rattle.speed.proofs.Reached.{passes}
+use Rattle.speed.proofs.Reached.{passes, reaches, alike, reaches-on}
 use Rattle.speed_laws.specs.Words.{covers, Every}
+use Rattle.speed_laws.proofs.Post.{posted-enter}
 
 -- a point with its speed lowered to the limit's
 abbrev pub lowered : Float → Point → Point
@@ -28,8 +29,8 @@ pub data Change (s e v : Float) : List Point → List Point → Type 0 where
   then : {ps qs rs : List Point} → Change s e v ps qs → Change s e v qs rs → Change s e v ps rs
   -- after a point comes another with its speed, at s or at e
   enter : (q : Point) (o : Float) (t : List Point) → (o ≡ s) ⊎ (o ≡ e) → T (Ieee.le (q .offset) o) → SortedFrom o t → Change s e v (q ∷ t) (q ∷ point o (q .speed) ∷ t)
-  -- a point not before s is lowered
-  lower : (p : Point) (t : List Point) → T (Ieee.le s (p .offset)) → Change s e v (p ∷ t) (lowered v p ∷ t)
+  -- a point not before s is lowered, and the next one is at or before e
+  lower : (p : Point) (t : List Point) → T (Ieee.le s (p .offset)) → T (reaches e t) → Change s e v (p ∷ t) (lowered v p ∷ t)
   -- a point not before s goes out, as its speed equals that of the point before
   out : (q p : Point) (t : List Point) → T (Ieee.le s (p .offset)) → T (Ieee.le (q .offset) (p .offset)) → T (Ieee.eq (q .speed) (p .speed)) → Change s e v (q ∷ p ∷ t) (q ∷ t)
 
@@ -46,7 +47,7 @@ change-order o none h = h
 change-order o (next p c) h = (h .0, change-order (p .offset) c (h .1))
 change-order o (then c d) h = change-order o d (change-order o c h)
 change-order o (enter q x t w l k) h = (h .0, (l, k))
-change-order o (lower p t l) h = h
+change-order o (lower p t l r) h = h
 change-order o (out q p t l k e) h = (h .0, past (q .offset) p t (h .1))
 
 -- ---- the kinds
@@ -57,7 +58,7 @@ change-every O W os oe low none n = n
 change-every O W os oe low (next p c) n = (n .0, n .1, change-every O W os oe low c (n .2))
 change-every O W os oe low (then c d) n = change-every O W os oe low d (change-every O W os oe low c n)
 change-every O W os oe low (enter q o t w l k) n = (n .0, n .1, (elim w [ inl a ↦ subst O (sym a) os | inr a ↦ subst O (sym a) oe ], n .1, n .2))
-change-every O W os oe low (lower p t l) n = (n .0, low (p .speed) (n .1), n .2)
+change-every O W os oe low (lower p t l r) n = (n .0, low (p .speed) (n .1), n .2)
 change-every O W os oe low (out q p t l k e) n = (n .0, n .1, n .2 .2)
 
 -- ---- the posted speed
@@ -99,12 +100,8 @@ module _ (s v x : Float) where
   change-near u none = inl refl
   change-near u (next p c) = change-near (passed x p u) c
   change-near u (then {ps} {qs} {rs} c d) = near-chain (posted x rs u) (posted x qs u) (posted x ps u) (change-near u d) (change-near u c)
-  change-near u (enter q o t w l k) = inl (ap (posted x t) (pick (Ieee.le o x) refl))
-    where
-      pick : (b : Bool) → Ieee.le o x ≡ b → cond b (q .speed) (passed x q u) ≡ passed x q u
-      pick true h = sym (passes x q u (le-trans (q .offset) o x l (of-true h)))
-      pick false h = refl
-  change-near u (lower p t l) = near-posted t (passed x (lowered v p) u) (passed x p u) (pick (Ieee.le (p .offset) x) refl)
+  change-near u (enter q o t w l k) = inl (posted-enter x u [] q o t l)
+  change-near u (lower p t l r) = near-posted t (passed x (lowered v p) u) (passed x p u) (pick (Ieee.le (p .offset) x) refl)
     where
       pick : (b : Bool) → Ieee.le (p .offset) x ≡ b → Near (cond b (minSpeed (p .speed) v) u) (cond b (p .speed) u)
       pick true h = inr (le-trans s (p .offset) x l (of-true h), λ f g. inr (eq-refl (minSpeed (p .speed) v) (minSpeed-real (p .speed) v g f)))
@@ -126,6 +123,35 @@ module _ (s v x : Float) where
       | inr a ↦ again (posted x qs u) (posted x ps u) y f g a h
     ]
   ]
+
+-- ---- the posted speed past the limit's end
+
+module _ (x : Float) where
+  -- t equals w, if that is a number
+  abbrev Same : Float → Float → Type 0
+  Same t w = T (real w) → T (Ieee.eq t w)
+
+  same-posted : (ps : List Point) (t w : Float) → Same t w → Same (posted x ps t) (posted x ps w)
+  same-posted [] t w h = h
+  same-posted (p ∷ ps) t w h = same-posted ps (passed x p t) (passed x p w) (pick (Ieee.le (p .offset) x))
+    where
+      pick : (b : Bool) → Same (cond b (p .speed) t) (cond b (p .speed) w)
+      pick true = eq-refl (p .speed)
+      pick false = h
+
+  -- From the limit's end on what is posted after a run of changes equals what was posted before.
+  pub change-past : {s e v : Float} {ps qs : List Point} (u : Float) → Change s e v ps qs → T (Ieee.le e x) → Same (posted x qs u) (posted x ps u)
+  change-past {ps = ps} u none l = eq-refl (posted x ps u)
+  change-past u (next p c) l = change-past (passed x p u) c l
+  change-past u (then {ps} {qs} {rs} c d) l =
+      λ h. let k = change-past u c l h in eq-trans (posted x rs u) (posted x qs u) (posted x ps u) (change-past u d l (eq-real-l (posted x qs u) (posted x ps u) k)) k
+  change-past u (enter q o t w m k) l = rw (posted-enter x u [] q o t m) (eq-refl (posted x (q ∷ t) u))
+  change-past {e = e} {v = v} u (lower p t m r) l = rw (alike x t (passed x (lowered v p) u) (passed x p u) (reaches-on x e t l r)) (eq-refl (posted x (p ∷ t) u))
+  change-past u (out q p t m k e) l = same-posted t (passed x q u) (passed x p (passed x q u)) (pick (Ieee.le (p .offset) x) refl)
+    where
+      pick : (b : Bool) → Ieee.le (p .offset) x ≡ b → Same (passed x q u) (cond b (p .speed) (passed x q u))
+      pick true h = λ r. rw (passes x q u (le-trans (q .offset) (p .offset) x k (of-true h))) e
+      pick false h = eq-refl (passed x q u)
 
 -- ---- a limit laid
 

@@ -1,6 +1,6 @@
 -- What laying a limit does to sorted points that begin at or before its start: to their order, to the kinds of their numbers, and to the speed posted at x.
 use mathlib.Core.Path.{_≡_, refl, subst}
-use mathlib.Core.Logic.{_⊎_, inl, inr}
+use mathlib.Core.Logic.{inl, inr}
 use mathlib.Core.Bool.{Bool, true, false, cond}
 use mathlib.Core.List.{List, [], _∷_}
 use Prim.Native.Nat.{_-_, _<_}
@@ -9,19 +9,18 @@ use lib.Dec.{T, not-T}
 use lib.ListN.{length}
 use lib.Ieee as Ieee
 use lib.Ieee.{Float, nan}
-use lib.Ieee.Bits.{is-false}
-use Rattle.ieee.specs.Number.{real, size}
+use lib.Ieee.Bits.{is-true, is-false}
+use Rattle.ieee.specs.Number.{real}
 use Rattle.ieee.specs.Speed.{minSpeed}
-use Rattle.ieee.proofs.Order.{le-trans, le-refl, le-real-l, lt→le, lt-not-le, eq→le, eq-refl, of-true}
-use Rattle.ieee.proofs.Sizes.{real-size, size-cong}
-use Rattle.ieee.proofs.Speed.{minSpeed-le-l, minSpeed-le-r, minSpeed-is, minSpeed-finite}
+use Rattle.ieee.proofs.Order.{le-refl, le-real-l, le-real-r, lt→le, lt-not-le, not-lt, eq-refl, of-true, of-false}
+use Rattle.ieee.proofs.Speed.{minSpeed-finite}
 use Rattle.speed.specs.Points.{Point, offsetAt}
 use Rattle.speed.specs.Insert.{insertSpeed}
 use Rattle.speed.specs.Posted.{passed, posted, SortedFrom, Sorted}
 use Rattle.speed.proofs.InsertSteps.{insert-append, insert-lay, first-below}
 use Rattle.speed.proofs.Reached.{passes, sorted-of}
-use Rattle.speed_laws.specs.Words.{covers, Every, Finite}
-use Rattle.speed_laws.proofs.Changes.{Near, change-order, change-every, change-near, Laid}
+use Rattle.speed_laws.specs.Words.{covers, heldTo, Every, Finite}
+use Rattle.speed_laws.proofs.Changes.{Near, change-order, change-every, change-near, change-past, Laid}
 use Rattle.speed_laws.proofs.Lay.{lay-laid}
 use Rattle.speed_laws.proofs.Append.{append-laid}
 
@@ -89,34 +88,21 @@ module _ (ps : List Point) (s e v : Float) (sorted : Sorted ps) (after : T (Ieee
       abbrev is : Float
       is = posted x (insertSpeed ps s e v) u
 
-      real-was : T (real (size was))
-      real-was = rw (real-size was) old
-
-      -- what it equals bounds its size
-      sized : (y z : Float) → T (Ieee.eq is y) → T (Ieee.le (size y) (size z)) → T (Ieee.le (size is) (size z))
-      sized y z h k = le-trans (size is) (size y) (size z) (eq→le (size is) (size y) (size-cong is y h)) k
-
       -- Where the limit covers x, the posted speed equals `minSpeed` of what it was and the limit's.
       pub insert-within : T (covers s e x) → T (Ieee.eq (posted x (insertSpeed ps s e v) u) (minSpeed (posted x ps u) v))
       insert-within h = laid .met x u h number old
 
-      -- Where the limit covers x, the posted size is at most the limit's.
-      pub insert-covers : T (covers s e x) → T (Ieee.le (size (posted x (insertSpeed ps s e v) u)) (size v))
-      insert-covers h = sized (minSpeed was v) v (insert-within h) (minSpeed-le-r was v old number)
+      -- Where it does not, the posted speed equals what it was.
+      pub insert-outside : covers s e x ≡ false → T (Ieee.eq (posted x (insertSpeed ps s e v) u) (posted x ps u))
+      insert-outside h = elim near [ inl k ↦ rw k (eq-refl was old) | inr k ↦ change-past x u (laid .change) (to-end (k .0)) old ]
+        where
+          to-end : T (Ieee.le s x) → T (Ieee.le e x)
+          to-end l = not-lt x e (le-real-r s x l) (le-real-r s e order) (of-false (rw (is-true (Ieee.le s x) l) at h))
 
-      -- The posted size is nowhere above what it was.
-      pub insert-lowers : T (Ieee.le (size (posted x (insertSpeed ps s e v) u)) (size (posted x ps u)))
-      insert-lowers = elim near [
-        | inl k ↦ rw k (le-refl (size was) real-was)
-        | inr k ↦ elim (k .1 number old) [ inl a ↦ sized was was a (le-refl (size was) real-was) | inr a ↦ sized (minSpeed was v) was a (minSpeed-le-l was v old number) ]
-      ]
-
-      -- The posted size is what it was or, from the limit's start on only, the limit's.
-      pub insert-attained : T (Ieee.eq (size (posted x (insertSpeed ps s e v) u)) (size (posted x ps u))) ⊎ (T (Ieee.le s x) × T (Ieee.eq (size (posted x (insertSpeed ps s e v) u)) (size v)))
-      insert-attained = elim near [
-        | inl k ↦ inl (rw k (eq-refl (size was) real-was))
-        | inr k ↦ elim (k .1 number old) [
-          | inl a ↦ inl (size-cong is was a)
-          | inr a ↦ elim (minSpeed-is was v) [ inl m ↦ inl (rw m at (size-cong is (minSpeed was v) a)) | inr m ↦ inr (k .0, rw m at (size-cong is (minSpeed was v) a)) ]
-        ]
-      ]
+      -- So the posted speed equals what it was, held to the limit where the limit covers x.
+      pub insert-exact : T (Ieee.eq (posted x (insertSpeed ps s e v) u) (heldTo s e v x (posted x ps u)))
+      insert-exact = pick (covers s e x) refl
+        where
+          pick : (b : Bool) → covers s e x ≡ b → T (Ieee.eq is (cond b (minSpeed was v) was))
+          pick true h = insert-within (of-true h)
+          pick false h = insert-outside h

@@ -15,8 +15,8 @@ use Rattle.ieee.specs.Speed.{minSpeed}
 use Rattle.ieee.proofs.Order.{of-true}
 use Rattle.column.specs.Entries.{insertAt, removeAt}
 use Rattle.speed.specs.Points.{Point, point, offsetAt, speedAt, setSpeed, setOffset, repeats}
-use Rattle.speed.specs.Insert.{dropRepeat, merge, nextIndex, nextPoints, ends, layEnd, starts, layStart, layLimit, appendChange, appendLimit, insertSpeed, firstFrom, lastFrom}
-use Rattle.speed.proofs.InsertSteps.{length-inserted, start-after}
+use Rattle.speed.specs.Insert.{dropRepeat, merge, nextIndex, nextPoints, ends, layEnd, starts, layStart, between, splits, layBetween, layFrom, layLimit, appendChange, appendLimit, insertSpeed, firstFrom, lastFrom}
+use Rattle.speed.proofs.InsertSteps.{length-inserted, start-after, between-some}
 use Rattle.speed_laws.proofs.Insert.{first-some}
 
 -- ---- the first offset, change by change
@@ -127,6 +127,25 @@ module _ (m : ℕ) (o s e v : Float) where
           more (kept-end (suc i) (suc j) (n + 1) (insertAt i p ps) (kept-in c i p (λ h. start-after s ps i (is-true (Ieee.le (offsetAt ps 0) s) (after c h)) l))) (omega arith)
       pick false k = more (kept-end i j n ps c) (omega arith)
 
+  kept-between : (i n : ℕ) (ps : List Point) → 0 < i → Kept n ps → Kept (n + 2) (layBetween s e v i ps)
+  unfolding layBetween
+  kept-between i n ps z c = pick (splits s e v i ps)
+    where
+      u : Float
+      u = speedAt ps (i - 1)
+
+      pick : (b : Bool) → Kept (n + 2) (cond b (insertAt i (point s (minSpeed u v)) (insertAt i (point e u) ps)) ps)
+      pick true = more (kept-in (kept-in c i (point e u) (λ h. z)) i (point s (minSpeed u v)) (λ h. z)) (omega arith)
+      pick false = more c (omega arith)
+
+  kept-from : (i j n : ℕ) (ps : List Point) → Kept n ps → Kept (n + 2) (layFrom s e v i j ps)
+  unfolding layFrom
+  kept-from i j n ps c = pick (between s e i ps) refl
+    where
+      pick : (b : Bool) → between s e i ps ≡ b → Kept (n + 2) (cond b (layBetween s e v i ps) (layStart s e v i j ps))
+      pick true k = kept-between i n ps (between-some s e i ps k) c
+      pick false k = kept-start i j n ps c
+
   kept-limit : (n : ℕ) (ps : List Point) → Kept n ps → Kept (n + 2) (appendLimit s e v ps)
   unfolding appendLimit appendChange
   kept-limit n ps k = pick (Ieee.ne u w) (Ieee.lt (offsetAt ps l) s) (repeats l w ps) refl
@@ -150,9 +169,9 @@ module _ (m : ℕ) (o s e v : Float) where
   unfolding insertSpeed layLimit
   kept-insert n ps k = pick (Ieee.le (offsetAt ps (length ps - 1)) s)
     where
-      pick : (b : Bool) → Kept (n + 2) (cond b (appendLimit s e v ps) (layStart s e v (firstFrom s ps) (lastFrom e (length ps - 1) ps) ps))
+      pick : (b : Bool) → Kept (n + 2) (cond b (appendLimit s e v ps) (layFrom s e v (firstFrom s ps) (lastFrom e (length ps - 1) ps) ps))
       pick true = kept-limit n ps k
-      pick false = kept-start (firstFrom s ps) (lastFrom e (length ps - 1) ps) n ps k
+      pick false = kept-from (firstFrom s ps) (lastFrom e (length ps - 1) ps) n ps k
 
 -- ---- the laws
 

@@ -10,8 +10,8 @@ use lib.Ieee.{Float}
 use Rattle.ieee.specs.Speed.{minSpeed}
 use Rattle.column.specs.Entries.{insertAt, removeAt}
 use Rattle.speed.specs.Points.{Point, point, offsetAt, speedAt, setSpeed, repeats}
-use Rattle.speed.specs.Insert.{dropRepeat, merge, ends, layEnd, layStart, lastFrom, appendChange, appendLimit}
-use Rattle.speed.proofs.InsertSteps.{repeats-some}
+use Rattle.speed.specs.Insert.{dropRepeat, merge, ends, layEnd, layStart, layBetween, layFrom, lastFrom, appendChange, appendLimit}
+use Rattle.speed.proofs.InsertSteps.{repeats-some, between-yes}
 
 pub less-one : (n : ℕ) → suc n - 1 ≡ n
 less-one n = omega arith
@@ -52,7 +52,7 @@ end-front e v i j p ps =
     let b : suc j - suc (suc i) ≡ j - suc i = omega arith in
     rw (a, b) (ap₂ (cond (ends e v j ps)) (merge-front v (suc j - suc i) i p new) (merge-front v (j - suc i) i p ps) ∙ cond-front (ends e v j ps) p (merge v (suc j - suc i) (suc i) new) (merge v (j - suc i) (suc i) ps))
 
-pub start-front : (s e v : Float) (i j : ℕ) (p : Point) (ps : List Point) → layStart s e v (suc (suc i)) (suc j) (p ∷ ps) ≡ p ∷ layStart s e v (suc i) j ps
+start-front : (s e v : Float) (i j : ℕ) (p : Point) (ps : List Point) → layStart s e v (suc (suc i)) (suc j) (p ∷ ps) ≡ p ∷ layStart s e v (suc i) j ps
 unfolding layStart
 start-front s e v i j p ps =
     let w = minSpeed (speedAt ps i) v in
@@ -60,6 +60,21 @@ start-front s e v i j p ps =
     let new = insertAt (suc i) (point s w) ps in
     rw (less-one (suc i), less-one i)
     (ap₂ (cond b) (end-front e v (suc i) (suc j) p new) (end-front e v i j p ps) ∙ cond-front b p (layEnd e v (suc (suc i)) (suc j) new) (layEnd e v (suc i) j ps))
+
+-- a limit between two points, and either
+between-front : (s e v : Float) (i : ℕ) (p : Point) (ps : List Point) → layBetween s e v (suc (suc i)) (p ∷ ps) ≡ p ∷ layBetween s e v (suc i) ps
+unfolding layBetween
+between-front s e v i p ps =
+    let u = speedAt ps i in
+    let w = minSpeed u v in
+    rw (less-one (suc i), less-one i) (cond-front (Ieee.lt s e && Ieee.ne u w) p (insertAt (suc i) (point s w) (insertAt (suc i) (point e u) ps)) ps)
+
+pub from-front : (s e v : Float) (i j : ℕ) (p : Point) (ps : List Point) → layFrom s e v (suc (suc i)) (suc j) (p ∷ ps) ≡ p ∷ layFrom s e v (suc i) j ps
+unfolding layFrom
+from-front s e v i j p ps =
+    let b = Ieee.le s e && Ieee.lt e (offsetAt ps (suc i)) in
+    rw (between-yes s e (suc (suc i)) (p ∷ ps) (omega arith), between-yes s e (suc i) ps (omega arith))
+    (ap₂ (cond b) (between-front s e v i p ps) (start-front s e v i j p ps) ∙ cond-front b p (layBetween s e v (suc i) ps) (layStart s e v (suc i) j ps))
 
 -- the search for the last point at or before e, if the second point is
 pub last-front : (e : Float) (k : ℕ) (p q : Point) (ps : List Point) → Ieee.lt e (q .offset) ≡ false → lastFrom e (suc k) (p ∷ q ∷ ps) ≡ suc (lastFrom e k (q ∷ ps))
