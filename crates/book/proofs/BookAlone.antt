@@ -1,17 +1,12 @@
 -- Demand 3's claims of a book: they stand at `new`, and each call that was rightly done keeps them.
 use native.Mathlib.Omega.{arith}
 use mathlib.Core.Path.{_≡_, refl}
-use mathlib.Core.Logic.{inl}
 use mathlib.Core.Bool.{true, false}
 use mathlib.Core.List.{List·Memᴰ·not-nil}
-use lib.Dec.{T}
-use lib.Ieee as Ieee
-use lib.Ieee.{Float, nan, binary64}
-use lib.Ieee.Scale.{finite}
-use Rattle.ieee.specs.Number.{+0, size}
-use Rattle.ieee.proofs.Order.{le-refl, eq→le, eq-refl}
+use lib.Ieee.{nan, binary64}
+use Rattle.ieee.specs.Number.{+0}
+use Rattle.ieee.proofs.Order.{le-refl, eq-refl}
 use Rattle.ieee.proofs.Same.{zero-fits}
-use Rattle.ieee.proofs.Sizes.{real-size, nonneg-size}
 use Rattle.ieee.proofs.Sum.{finite-real}
 use Rattle.speed.specs.Points.{point}
 use Rattle.speed.proofs.Reached.{passes}
@@ -21,7 +16,7 @@ use Rattle.path.specs.Sound.{trainFinite}
 use Rattle.book.specs.Book.{Call, Book, newBook, enterCall}
 use Rattle.book.specs.Book.Call.{extend, clear, reindex, finish}
 use Rattle.book.proofs.Good.{GoodCall}
-use Rattle.book.specs.Claims.{PostedRight, Offset, Claims}
+use Rattle.book.specs.Claims.{Offset, Claims}
 use Rattle.book.proofs.FiniteTrain.{train-good}
 use Rattle.book.proofs.Joined.{links-claims}
 use Rattle.book.proofs.Trimmed.{drop-claims}
@@ -39,17 +34,9 @@ new-claims train fin =
       starts = refl;
       in-order = tt;
       points-good = (zero, good .top-finite, tt);
-      speeds = λ x h. rw (passes x (point +0 (topSpeed train)) nan h) (top-right x (good .top-finite) (good .top-from-zero));
+      limits-good = λ l m. absurd (List·Memᴰ·not-nil m);
+      speeds = λ x h. rw (passes x (point +0 (topSpeed train)) nan h) (eq-refl (topSpeed train) (finite-real (topSpeed train) (good .top-finite)));
     }
-  where
-    top-right : (x : Float) → T (finite (topSpeed train)) → T (Ieee.le +0 (topSpeed train)) → PostedRight train (newBook train) x (topSpeed train)
-    top-right x f h =
-        let top = topSpeed train in
-        record {
-          at-most-top = eq→le (size top) top (nonneg-size top false h);
-          at-most-limits = λ l m k. absurd (List·Memᴰ·not-nil m);
-          attained = inl (eq-refl (size top) (rw (real-size top) (finite-real top f)));
-        }
 
 -- ---- the calls
 

@@ -17,7 +17,9 @@ use Rattle.book.specs.Book.{bookOf}
 use Rattle.book.specs.Claims.{postedAt, PostedRight}
 use Rattle.book.specs.Demand.{BeginAtEnds, ranFromNew, Demand3, StaysSound}
 use Rattle.book.proofs.Matching.{Begun}
-use Rattle.book.proofs.Running.{goes}
+use Rattle.book.proofs.FiniteTrain.{train-good}
+use Rattle.book.proofs.Posted.{posted-right}
+use Rattle.book.proofs.Running.{new-goes, goes}
 
 -- each link's first record is inside the list
 within : (count : LinkPoint → ℕ) (links : List LinkPoint) (rs : List PathResCoeff) (ends : List Float) (finished : Bool) → Begun count links rs ends (spare finished)
@@ -31,13 +33,14 @@ demand-3 train columns calls f64 e =
     let path = pathOf (ran .path) (ran .columns) in
     let b = bookOf train (ran .told) in
     let same = g .matched .points in
+    let good = train-good train (new-goes train columns e .0) in
     record {
       some-end = g .claims .some-end;
       links = g .matched .links;
       points = same;
       begins = ap (λ (ps : List Point). offsetAt ps 0) same ∙ g .claims .starts;
       sorted = subst Sorted (sym same) (g .claims .in-order);
-      speeds = λ x h. subst (λ (ps : List Point). PostedRight train b x (postedAt ps x)) (sym same) (g .claims .speeds x h);
+      speeds = λ x h. subst (λ (ps : List Point). PostedRight train b x (postedAt ps x)) (sym same) (posted-right train good b (g .claims) x h);
       grades = within (countOf false) (path .links) (path .grades) (b .ends) (path .finished) (g .grounded .grades);
       curves = within (countOf true) (path .links) (path .curves) (b .ends) (path .finished) (g .grounded .curves);
     }

@@ -1,36 +1,34 @@
 -- Limits enter a book, laid where they are below the top speed, and its claims stand.
 use mathlib.Core.Path.{_≡_, refl, sym, ap₂, _∙_, subst}
 use mathlib.Core.Logic.{inl, inr}
-use mathlib.Core.Bool.{Bool, true, false, not, cond}
-use mathlib.Core.List.{List, [], _∷_, _++_, append-nil, append-assoc, List·Memᴰ, List·Memᴰ·head, List·Memᴰ·append-cases, List·Memᴰ·eq-of-singleton, Memᴰ·append-left, Memᴰ·append-right}
+use mathlib.Core.Bool.{Bool, true, false, cond}
+use mathlib.Core.List.{List, [], _∷_, _++_, append-nil, append-assoc, List·Memᴰ, List·Memᴰ·append-cases, List·Memᴰ·eq-of-singleton}
 use lib.Dec.{T}
 use lib.Ieee as Ieee
 use lib.Ieee.{Float, nan}
-use Rattle.ieee.specs.Number.{+0, real, size}
-use Rattle.ieee.proofs.Order.{le-trans, eq→ge, eq-trans, not-lt, of-true, of-false}
-use Rattle.ieee.proofs.Sizes.{nonneg-size}
+use lib.Ieee.Bits.{is-true}
+use lib.Ieee.Scale.{finite}
+use Rattle.ieee.specs.Number.{real}
+use Rattle.ieee.proofs.Order.{eq-trans, of-true}
 use Rattle.ieee.proofs.Speed.{minSpeed-finite}
 use Rattle.ieee.proofs.Sum.{finite-real}
 use Rattle.speed.specs.Points.{Point, offsetAt}
 use Rattle.speed.specs.Insert.{insertSpeed}
-use Rattle.speed_laws.specs.Words.{Finite}
-use Rattle.speed_laws.proofs.Insert.{posted-every, insert-order, insert-every, insert-covers, insert-lowers, insert-attained}
+use Rattle.speed_laws.specs.Words.{heldTo, Finite}
+use Rattle.speed_laws.proofs.Insert.{posted-every, insert-order, insert-every, insert-exact}
 use Rattle.speed_laws.proofs.Kept.{insert-begins}
+use Rattle.speed_laws.proofs.EitherOrder.{held-cong}
 use Rattle.link.specs.declared.train_params.TrainParams.{TrainParams}
 use Rattle.link.specs.Train.{topSpeed}
 use Rattle.link.specs.Table.{Limit}
 use Rattle.path_speeds.specs.Limits.{lowers, lowering, layAll}
 use Rattle.book.specs.Book.{Book, firstEnd}
-use Rattle.book.specs.Claims.{postedAt, coversAt, PostedRight, Offset, Claims}
-use Rattle.book.proofs.FiniteTrain.{TrainGood}
+use Rattle.book.specs.Claims.{postedAt, smallestAt, Offset, Claims}
 use Rattle.book.proofs.Placed.{Stretch, Enters, AllEnter}
+use Rattle.book.proofs.Smallest.{smallest-laid, smallest-passed}
 
 abbrev pub bookWith : List Float → List Limit → List Point → Book
 bookWith ends limits points = record { ends = ends; limits = limits; points = points }
-
--- a posted speed is right by a book's limits, whatever its ends and points
-pub same-limits : (train : TrainParams) (b : Book) (ends : List Float) (points : List Point) (x u : Float) → PostedRight train b x u → PostedRight train (bookWith ends (b .limits) points) x u
-same-limits train b ends points x u r = record { at-most-top = r .at-most-top; at-most-limits = r .at-most-limits; attained = r .attained }
 
 -- the points once a limit has entered
 abbrev laidOn : Float → Limit → List Point → List Point
@@ -44,7 +42,7 @@ lay-next top l ls ps = pick (lowers top l)
     pick true = refl
     pick false = refl
 
-module _ (train : TrainParams) (good : TrainGood train) where
+module _ (train : TrainParams) where
   -- ---- one limit
 
   module _ (b : Book) (c : Claims train b) (l : Limit) (fit : Enters (topSpeed train) (firstEnd (b .ends)) l) where
@@ -55,10 +53,10 @@ module _ (train : TrainParams) (good : TrainGood train) where
     more = b .limits ++ l ∷ []
 
     -- a limit is one of before, or the new one
-    either : (P : Limit → Type 0) → ((k : Limit) → List·Memᴰ k (b .limits) → P k) → P l → (k : Limit) → List·Memᴰ k more → P k
-    either P f h k m = elim (List·Memᴰ·append-cases (b .limits) m) [
-      | inl i ↦ f k i
-      | inr i ↦ subst P (sym (List·Memᴰ·eq-of-singleton i)) h
+    all-good : (k : Limit) → List·Memᴰ k more → T (finite (k .value))
+    all-good k m = elim (List·Memᴰ·append-cases (b .limits) m) [
+      | inl i ↦ c .limits-good k i
+      | inr i ↦ subst (λ (n : Limit). T (finite (n .value))) (sym (List·Memᴰ·eq-of-singleton i)) (fit .value-finite)
     ]
 
     -- it is laid
@@ -72,30 +70,19 @@ module _ (train : TrainParams) (good : TrainGood train) where
       after : T (Ieee.le (offsetAt (b .points) 0) (l .start))
       after = rw (c .starts) (where-laid .on)
 
-      right : (x : Float) → T (Ieee.le (firstEnd (b .ends)) x) → PostedRight train (bookWith (b .ends) more points) x (postedAt points x)
-      right x h =
-          let was = postedAt (b .points) x in
-          let is = postedAt points x in
-          let old = c .speeds x h in
+      exact : (x : Float) → T (Ieee.le (firstEnd (b .ends)) x) → T (Ieee.eq (postedAt points x) (smallestAt top more x))
+      exact x h =
           let s = l .start in
           let e = l .end in
           let v = l .value in
+          let was = postedAt (b .points) x in
+          let is = postedAt points x in
+          let least = smallestAt top (b .limits) x in
           let v-real : T (real v) = finite-real v (fit .value-finite) in
           let was-real : T (real was) = finite-real was (posted-every Offset Finite x nan (b .points) (c .points-good) (rw (c .starts) h)) in
-          let less : T (Ieee.le (size is) (size was)) = insert-lowers (b .points) s e v (c .in-order) after (where-laid .forward) x nan v-real was-real in
-          record {
-            at-most-top = le-trans (size is) (size was) top less (old .at-most-top);
-            at-most-limits = either (λ k. T (coversAt k x) → T (Ieee.le (size is) (size (k .value))))
-                (λ k m i. le-trans (size is) (size was) (size (k .value)) less (old .at-most-limits k m i))
-                (insert-covers (b .points) s e v (c .in-order) after (where-laid .forward) x nan v-real was-real);
-            attained = elim (insert-attained (b .points) s e v (c .in-order) after (where-laid .forward) x nan v-real was-real) [
-              | inl i ↦ elim (old .attained) [
-                | inl j ↦ inl (eq-trans (size is) (size was) (size top) i j)
-                | inr j ↦ inr (j .0, Memᴰ·append-left (l ∷ []) (j .1), j .2, j .3, eq-trans (size is) (size was) (size (j .0 .value)) i (j .4))
-              ]
-              | inr i ↦ inr (l, Memᴰ·append-right (b .limits) (List·Memᴰ·head refl), below, i .0, i .1)
-            ];
-          }
+          rw (smallest-laid top x (b .limits) l (is-true (lowers top l) below))
+          (eq-trans is (heldTo s e v x was) (heldTo s e v x least) (insert-exact (b .points) s e v (c .in-order) after (where-laid .forward) x nan v-real was-real)
+          (held-cong s e v x was least v-real (c .speeds x h)))
 
       laid : Claims train (bookWith (b .ends) more points)
       laid =
@@ -108,39 +95,23 @@ module _ (train : TrainParams) (good : TrainGood train) where
             in-order = insert-order (b .points) (l .start) (l .end) (l .value) (c .in-order) after (z .forward);
             points-good = insert-every (b .points) (l .start) (l .end) (l .value) (c .in-order) after (z .forward) Offset Finite
                 (z .start-good) (z .end-good) (λ u h. minSpeed-finite u (l .value) h (fit .value-finite)) (c .points-good);
-            speeds = right;
+            limits-good = all-good;
+            speeds = exact;
           }
 
-    -- it is not: the top speed is no higher than it is
-    module _ (not-below : T (not (lowers top l))) where
-      top-le : T (Ieee.le top (size (l .value)))
-      top-le =
-          let v = l .value in
-          let k : T (Ieee.le top v) = not-lt v top (finite-real v (fit .value-finite)) (finite-real top (good .top-finite)) not-below in
-          le-trans top v (size v) k (eq→ge (size v) v (nonneg-size v false (le-trans +0 top v (good .top-from-zero) k)))
-
-      passed-by : Claims train (bookWith (b .ends) more (b .points))
-      passed-by =
-          record {
-            some-end = c .some-end;
-            ends-good = c .ends-good;
-            ends-rise = c .ends-rise;
-            starts = c .starts;
-            in-order = c .in-order;
-            points-good = c .points-good;
-            speeds = right;
-          }
-        where
-          right : (x : Float) → T (Ieee.le (firstEnd (b .ends)) x) → PostedRight train (bookWith (b .ends) more (b .points)) x (postedAt (b .points) x)
-          right x h =
-              let u = postedAt (b .points) x in
-              let old = c .speeds x h in
-              record {
-                at-most-top = old .at-most-top;
-                at-most-limits = either (λ k. T (coversAt k x) → T (Ieee.le (size u) (size (k .value)))) (old .at-most-limits)
-                    (λ i. le-trans (size u) top (size (l .value)) (old .at-most-top) top-le);
-                attained = elim (old .attained) [ inl i ↦ inl i | inr i ↦ inr (i .0, Memᴰ·append-left (l ∷ []) (i .1), i .2, i .3, i .4) ];
-              }
+    -- it is not
+    passed-by : lowers top l ≡ false → Claims train (bookWith (b .ends) more (b .points))
+    passed-by k =
+        record {
+          some-end = c .some-end;
+          ends-good = c .ends-good;
+          ends-rise = c .ends-rise;
+          starts = c .starts;
+          in-order = c .in-order;
+          points-good = c .points-good;
+          limits-good = all-good;
+          speeds = λ x h. rw (smallest-passed top x (b .limits) l k) (c .speeds x h);
+        }
 
     -- laid or not
     limit-enters : Claims train (bookWith (b .ends) more (laidOn top l (b .points)))
@@ -148,7 +119,7 @@ module _ (train : TrainParams) (good : TrainGood train) where
       where
         pick : (k : Bool) → lowers top l ≡ k → Claims train (bookWith (b .ends) more (cond k (insertSpeed (b .points) (l .start) (l .end) (l .value)) (b .points)))
         pick true e = laid (of-true e)
-        pick false e = passed-by (of-false e)
+        pick false e = passed-by e
 
   -- ---- limits in turn
 

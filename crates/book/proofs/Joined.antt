@@ -21,10 +21,10 @@ use Rattle.path.specs.Sound.{trainFinite}
 use Rattle.path_speeds.specs.Limits.{ifApplies, applyingSet, tailOf, entering, limitsFinite, setsOf, setOf, enteringAt, finiteAt, lowering, layAll}
 use Rattle.book.specs.Book.{Book, firstEnd, lastEnd, enterLink, enterLinks}
 use Rattle.book.proofs.Good.{GoodLink, GoodLinks}
-use Rattle.book.specs.Claims.{postedAt, Offset, Claims}
+use Rattle.book.specs.Claims.{Offset, Claims}
 use Rattle.book.proofs.Placed.{sum-offset, AllEnter, all-enter}
 use Rattle.book.proofs.Ends.{last-offset, first-last, first-more, some-more, offsets-more, rising-more}
-use Rattle.book.proofs.Entered.{bookWith, same-limits, limits-enter}
+use Rattle.book.proofs.Entered.{bookWith, limits-enter}
 use Rattle.book.proofs.FiniteTrain.{train-good}
 
 -- ---- the limits of a link
@@ -77,7 +77,8 @@ more-ends train b e k l c =
       starts = c .starts ∙ sym same;
       in-order = c .in-order;
       points-good = c .points-good;
-      speeds = λ x h. same-limits train b (b .ends ++ e ∷ []) (b .points) x (postedAt (b .points) x) (c .speeds x (subst (λ (o : Float). T (Ieee.le o x)) same h));
+      limits-good = c .limits-good;
+      speeds = λ x h. c .speeds x (subst (λ (o : Float). T (Ieee.le o x)) same h);
     }
 
 pub link-claims : (train : TrainParams) → trainFinite train ≡ true → (own : Float) → T (Ieee.le +0 own) → (t : LinkTable) (b : Book) (n : ℕ) → Claims train b → GoodLink train own t (lastEnd (b .ends)) n → Claims train (enterLink train own t b n)
@@ -93,7 +94,7 @@ link-claims train fin own above t b n c g =
     let end = sum-offset long base (lt→le +0 long (of-true (formed t n (g .formed) .above))) at (of-true (g .end-finite)) .0 in
     more-ends train (bookWith (b .ends) (b .limits ++ limits) (layAll (b .points) (lowering (topSpeed train) limits))) (base ⊕ long) (subst Offset turn end)
     (subst (λ (e : Float). T (Ieee.lt base e)) turn (of-true (g .beyond)))
-    (limits-enter train good limits b (link-enters train own above t base n (firstEnd (b .ends)) at from g) c)
+    (limits-enter train limits b (link-enters train own above t base n (firstEnd (b .ends)) at from g) c)
 
 pub links-claims : (train : TrainParams) → trainFinite train ≡ true → (own : Float) → T (Ieee.le +0 own) → (t : LinkTable) (b : Book) (ns : List ℕ) → Claims train b → GoodLinks train own t b ns → Claims train (enterLinks train own t b ns)
 unfolding enterLinks

@@ -4,6 +4,9 @@ pub mod Signs
 pub mod FiniteTrain
 pub mod Placed
 pub mod Ends
+pub mod Smallest
+pub mod OrderFree
+pub mod Posted
 pub mod Entered
 pub mod Joined
 pub mod Trimmed
@@ -23,6 +26,7 @@ pub mod LaidStretches
 pub mod StayJoined
 pub mod Running
 pub mod DemandThree
+pub mod LimitsEnd
 pub mod TablesF64
 pub mod Tidy
 pub mod TrimsRun

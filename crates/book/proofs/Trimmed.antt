@@ -5,15 +5,13 @@ use lib.Ieee as Ieee
 use lib.Ieee.{Float, nan}
 use Rattle.ieee.proofs.Order.{le-trans}
 use Rattle.speed.specs.Points.{offsetAt}
-use Rattle.speed.specs.Clear.{clearPoints}
 use Rattle.speed_laws.specs.Words.{Finite}
 use Rattle.speed_laws.proofs.Clear.{clear-order, clear-begins, clear-posted, clear-every}
 use Rattle.link.specs.declared.train_params.TrainParams.{TrainParams}
 use Rattle.book.specs.Book.{Book, firstEnd, dropEnds, dropBehind}
 use Rattle.book.proofs.Good.{GoodClear}
-use Rattle.book.specs.Claims.{postedAt, Offset, Claims}
+use Rattle.book.specs.Claims.{Offset, Claims}
 use Rattle.book.proofs.Ends.{first-offset, Left, ends-left}
-use Rattle.book.proofs.Entered.{same-limits}
 
 pub drop-claims : (train : TrainParams) (x : Float) (b : Book) → Claims train b → GoodClear x b → Claims train (dropBehind x b)
 unfolding dropBehind
@@ -25,8 +23,8 @@ drop-claims train x b c g =
       starts = clear-begins (b .points) X (c .in-order) after;
       in-order = clear-order (b .points) X (c .in-order) after;
       points-good = clear-every (b .points) X (c .in-order) after Offset Finite (first-offset ends (left .some) (left .offsets)) (c .points-good);
-      speeds = λ y h. same-limits train b ends (clearPoints (b .points) X) y (postedAt (clearPoints (b .points) X) y)
-          (rw (clear-posted (b .points) X (c .in-order) after y nan h) (c .speeds y (le-trans (firstEnd (b .ends)) X y (left .on) h)));
+      limits-good = c .limits-good;
+      speeds = λ y h. rw (clear-posted (b .points) X (c .in-order) after y nan h) (c .speeds y (le-trans (firstEnd (b .ends)) X y (left .on) h));
     }
   where
     ends : List Float

@@ -2,7 +2,7 @@
 use Prim.Native.Nat.{_<_}
 use mathlib.Core.Path.{_≡_}
 use mathlib.Core.Logic.{_⊎_}
-use mathlib.Core.Bool.{Bool, false}
+use mathlib.Core.Bool.{Bool, false, _&&_}
 use mathlib.Core.List.{List, [], _∷_, List·Memᴰ}
 use lib.Dec.{T}
 use lib.ListN.{length}
@@ -10,13 +10,14 @@ use lib.Ieee as Ieee
 use lib.Ieee.{Float, binary64, nan, fits}
 use lib.Ieee.Scale.{finite}
 use Rattle.ieee.specs.Number.{+0, sign, size}
+use Rattle.ieee.specs.Speed.{minSpeed}
 use Rattle.speed.specs.Points.{Point, offsetAt}
 use Rattle.speed.specs.Posted.{posted, Sorted}
 use Rattle.speed_laws.specs.Words.{covers, Every, Finite}
 use Rattle.link.specs.declared.train_params.TrainParams.{TrainParams}
 use Rattle.link.specs.Train.{topSpeed}
 use Rattle.link.specs.Table.{Limit}
-use Rattle.path_speeds.specs.Limits.{lowers}
+use Rattle.path_speeds.specs.Limits.{lowers, consIf}
 use Rattle.book.specs.Book.{Book, firstEnd}
 
 -- R18: the speed of the last point not after x
@@ -26,6 +27,20 @@ postedAt points x = posted x points nan
 -- R19: from its start up to, but not including, its end
 abbrev pub coversAt : Limit → Float → Bool
 coversAt l x = covers (l .start) (l .end) x
+
+-- what holds at x beside the top speed: of the limits, those laid that cover it
+abbrev pub holdingAt : Float → List Limit → Float → List Limit
+holdingAt top [] x = []
+holdingAt top (l ∷ ls) x = consIf (lowers top l && coversAt l x) l (holdingAt top ls x)
+
+-- the smallest of u and the speeds of these limits, by R17
+abbrev pub smallestOf : Float → List Limit → Float
+smallestOf u [] = u
+smallestOf u (l ∷ ls) = smallestOf (minSpeed u (l .value)) ls
+
+-- R184: the smallest of what holds at x
+abbrev pub smallestAt : Float → List Limit → Float → Float
+smallestAt top limits x = smallestOf top (holdingAt top limits x)
 
 -- the speed posted at x, u, against the book
 pub record PostedRight (train : TrainParams) (b : Book) (x u : Float) : Type 0 where
@@ -67,5 +82,7 @@ pub record Claims (train : TrainParams) (b : Book) : Type 0 where
   pub starts : offsetAt (b .points) 0 ≡ firstEnd (b .ends)
   pub in-order : Sorted (b .points)
   pub points-good : Every Offset Finite (b .points)
-  -- R93 and R94, at every offset not before the path's beginning
-  pub speeds : (x : Float) → T (Ieee.le (firstEnd (b .ends)) x) → PostedRight train b x (postedAt (b .points) x)
+  -- each limit has a finite speed
+  pub limits-good : (l : Limit) → List·Memᴰ l (b .limits) → T (finite (l .value))
+  -- R184, at every offset not before the path's beginning: from it R93 and R94 follow
+  pub speeds : (x : Float) → T (Ieee.le (firstEnd (b .ends)) x) → T (Ieee.eq (postedAt (b .points) x) (smallestAt (topSpeed train) (b .limits) x))

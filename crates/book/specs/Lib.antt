@@ -2,4 +2,5 @@
 pub mod Book
 pub mod Claims
 pub mod Demand
+pub mod LimitsEnd
 pub mod Trims
