@@ -1,11 +1,12 @@
 // The table of stretches: from, to, the speed posted, and what holds there.
-use crate::holders::holder;
+use crate::holders::Held;
+use crate::holders::held_by;
+use crate::holders::piece_end;
 use show::plain;
 use show::real;
 use show::real_in;
 use show::say;
 use si::Velocity;
-use speed::speed_limit::lesser;
 
 // The link of limit i.
 fn link_of(tags: &[f64], i: usize) {
@@ -13,65 +14,34 @@ fn link_of(tags: &[f64], i: usize) {
     real(column::floats::two_at(tags, i).1);
 }
 
-// What holds a stretch that begins at x: limit i, its board or its tail; where i is none of n, the top speed or a limit that is not released.
-fn reason(boards: &[f64], tags: &[f64], n: usize, i: usize, x: f64, v: f64, top: Velocity) {
-    if i < n {
-        if x < column::floats::three_at(boards, i).1 {
-            say(b"limit of ");
-        } else {
-            say(b"tail of the limit of ");
+// What holds a row that begins at x: a limit by its board or its tail, or the top speed.
+fn reason(boards: &[f64], tags: &[f64], held: Held, x: f64) {
+    match held {
+        Held::Limit(i) => {
+            if x < column::floats::three_at(boards, i).1 {
+                say(b"limit of ");
+            } else {
+                say(b"tail of the limit of ");
+            }
+            link_of(tags, i);
         }
-        link_of(tags, i);
-        return;
+        Held::Top => say(b"top speed"),
+        Held::Unlisted => say(b"a limit not listed here"),
     }
-    if ieee::size(v) == ieee::size(top.0) {
-        say(b"top speed");
-        return;
-    }
-    let k = holder(boards, tags, n, x, v, true);
-    if k < n {
-        say(b"limit of ");
-        link_of(tags, k);
-        say(b", not released before the next point");
-        return;
-    }
-    say(b"the speed points given");
 }
 
-// The first start behind x, and before `to`, of a limit with the size of v; `to` where there is none.
-fn next_start(boards: &[f64], tags: &[f64], n: usize, x: f64, to: f64, v: f64) -> f64 {
-    let mut first = to;
-    let mut i = 0;
-    while i < n {
-        let start = column::floats::three_at(boards, i).0;
-        let speed = column::floats::two_at(tags, i).0;
-        if (x < start) & (ieee::size(speed) == ieee::size(v)) {
-            first = lesser(first, start);
-        }
-        i += 1;
-    }
-    first
+// The offset behind all others.
+fn endless() -> f64 {
+    1.0 / 0.0
 }
 
-// Where what holds at x changes before `to`: at the end of limit i's board, then of its tail; where no limit holds, at the next one's start.
-fn piece_end(boards: &[f64], tags: &[f64], n: usize, i: usize, x: f64, to: f64, v: f64) -> f64 {
-    if i < n {
-        let b = column::floats::three_at(boards, i);
-        if x < b.1 {
-            return lesser(b.1, to);
-        }
-        return lesser(b.2, to);
-    }
-    next_start(boards, tags, n, x, to, v)
-}
-
-// A row that ends at `to`; the last one goes on.
-fn row(x: f64, to: f64, last: bool, v: f64) {
+// A row from x up to `to`; one without an end goes on.
+fn row(x: f64, to: f64, v: f64) {
     real_in(x, 10);
-    if last {
-        say(b"        on");
-    } else {
+    if to < endless() {
         real_in(to, 10);
+    } else {
+        say(b"        on");
     }
     real_in(v, 8);
     say(b"  ");
@@ -85,38 +55,28 @@ fn pieces(boards: &[f64], tags: &[f64], n: usize, from: f64, to: f64, v: f64, to
         if !(x < to) {
             return;
         }
-        let i = holder(boards, tags, n, x, v, false);
-        let next = piece_end(boards, tags, n, i, x, to, v);
-        row(x, next, false, v);
-        reason(boards, tags, n, i, x, v, Velocity(top.0));
+        let held = held_by(boards, tags, n, x, v, Velocity(top.0));
+        let next = piece_end(boards, tags, n, x, to, v, held);
+        row(x, next, v);
+        reason(boards, tags, held, x);
         say(b"\n");
         x = next;
         left -= 1;
     }
 }
 
-// The table of a path with `count` speed points.
+// The table of a path with `count` speed points: the stretch of the last one has no end.
 pub fn table(speeds: &[f64], count: usize, boards: &[f64], tags: &[f64], n: usize, top: Velocity) {
     say(b"      from        to   speed  held by\n");
     let mut k = 0;
     while k < count {
         let p = column::floats::two_at(speeds, k);
-        if k + 1 < count {
-            let q = column::floats::two_at(speeds, k + 1);
-            pieces(boards, tags, n, p.0, q.0, p.1, Velocity(top.0));
+        let to = if k + 1 < count {
+            column::floats::two_at(speeds, k + 1).0
         } else {
-            row(p.0, p.0, true, p.1);
-            reason(
-                boards,
-                tags,
-                n,
-                holder(boards, tags, n, p.0, p.1, false),
-                p.0,
-                p.1,
-                Velocity(top.0),
-            );
-            say(b"\n");
-        }
+            endless()
+        };
+        pieces(boards, tags, n, p.0, to, p.1, Velocity(top.0));
         k += 1;
     }
     plain(count);

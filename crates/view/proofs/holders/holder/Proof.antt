@@ -9,10 +9,10 @@ use Rattle.view.proofs.holders.holder.Statement.{statement}
 use Rattle.view.proofs.holders.holder.Tie as tie
 
 abbrev Inv-loop : tie.InvT-loop
-Inv-loop boards tags n x v ended i₀ i = Searched (holds boards tags x v ended) n i
+Inv-loop boards tags n x v i₀ i = Searched (holds boards tags x v) n i
 
 abbrev μ-loop : tie.MeasureT-loop
-μ-loop boards tags n x v ended i₀ i = n - i
+μ-loop boards tags n x v i₀ i = n - i
 
 loop-holds : tie.Need-loop-holds Inv-loop μ-loop
 loop-holds c = searched-none

@@ -16,8 +16,8 @@ loop-holds c = tt
 returns : tie.Need-returns Inv-loop μ-loop
 returns c = search needs
 
-holder-requires : tie.Need-holder-requires Inv-loop μ-loop
-holder-requires c κs = search needs
+held-by-requires : tie.Need-held-by-requires Inv-loop μ-loop
+held-by-requires c κs = search needs
 
 piece-end-requires : tie.Need-piece-end-requires Inv-loop μ-loop
 piece-end-requires c κs = search needs
@@ -54,7 +54,7 @@ pieces-spec =
     μ-loop
     loop-holds
     returns
-    holder-requires
+    held-by-requires
     piece-end-requires
     row-requires
     reason-requires

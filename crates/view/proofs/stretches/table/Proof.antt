@@ -6,10 +6,10 @@ use Rattle.view.proofs.stretches.table.Statement.{statement}
 use Rattle.view.proofs.stretches.table.Tie as tie
 
 abbrev Inv-loop : tie.InvT-loop
-Inv-loop speeds count boards tags n top k₀ t11 t12 k = Unit {0}
+Inv-loop speeds count boards tags n top k₀ t11 k = Unit {0}
 
 abbrev μ-loop : tie.MeasureT-loop
-μ-loop speeds count boards tags n top k₀ t11 t12 k = count - k
+μ-loop speeds count boards tags n top k₀ t11 k = count - k
 
 slice-aggregate-say : tie.Need-slice-aggregate-say Inv-loop μ-loop
 slice-aggregate-say c = search needs
@@ -32,23 +32,11 @@ add-two-at c = omega arith
 two-at-requires-2 : tie.Need-two-at-requires-2 Inv-loop μ-loop
 two-at-requires-2 c κs = search needs
 
+endless-requires : tie.Need-endless-requires Inv-loop μ-loop
+endless-requires c κs = search needs
+
 pieces-requires : tie.Need-pieces-requires Inv-loop μ-loop
 pieces-requires c κs = search needs
-
-row-requires : tie.Need-row-requires Inv-loop μ-loop
-row-requires c κs = search needs
-
-holder-requires : tie.Need-holder-requires Inv-loop μ-loop
-holder-requires c κs = search needs
-
-reason-requires : tie.Need-reason-requires Inv-loop μ-loop
-reason-requires c κs = search needs
-
-slice-aggregate-say-2 : tie.Need-slice-aggregate-say-2 Inv-loop μ-loop
-slice-aggregate-say-2 c = search needs
-
-say-requires-2 : tie.Need-say-requires-2 Inv-loop μ-loop
-say-requires-2 c κs = search needs
 
 add-k : tie.Need-add-k Inv-loop μ-loop
 add-k c = omega arith
@@ -62,11 +50,11 @@ loop-again c = tt
 plain-requires : tie.Need-plain-requires Inv-loop μ-loop
 plain-requires c κs = search needs
 
-slice-aggregate-say-3 : tie.Need-slice-aggregate-say-3 Inv-loop μ-loop
-slice-aggregate-say-3 c = search needs
+slice-aggregate-say-2 : tie.Need-slice-aggregate-say-2 Inv-loop μ-loop
+slice-aggregate-say-2 c = search needs
 
-say-requires-3 : tie.Need-say-requires-3 Inv-loop μ-loop
-say-requires-3 c κs = search needs
+say-requires-2 : tie.Need-say-requires-2 Inv-loop μ-loop
+say-requires-2 c κs = search needs
 
 returns : tie.Need-returns Inv-loop μ-loop
 returns c = search needs
@@ -84,16 +72,12 @@ table-spec =
     add-if1
     add-two-at
     two-at-requires-2
+    endless-requires
     pieces-requires
-    row-requires
-    holder-requires
-    reason-requires
-    slice-aggregate-say-2
-    say-requires-2
     add-k
     loop-less
     loop-again
     plain-requires
-    slice-aggregate-say-3
-    say-requires-3
+    slice-aggregate-say-2
+    say-requires-2
     returns)

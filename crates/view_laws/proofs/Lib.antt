@@ -1,0 +1,2 @@
+-- The laws of the crate `view_laws`.
+pub mod Named
