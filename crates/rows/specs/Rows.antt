@@ -83,7 +83,7 @@ rows =
     -- S3
     ∷ lay (p 0 30 ∷ []) 0 10 (m 20) (p 0 20 ∷ p 10 30 ∷ [])
     -- S4
-    ∷ lay twoPoints 20 40 (m 15) (p 0 30 ∷ p 20 15 ∷ p 100 20 ∷ [])
+    ∷ lay twoPoints 20 40 (m 15) (p 0 30 ∷ p 20 15 ∷ p 40 30 ∷ p 100 20 ∷ [])
     -- S5
     ∷ lay twoPoints 20 100 (m 15) (p 0 30 ∷ p 20 15 ∷ p 100 20 ∷ [])
     -- S6
