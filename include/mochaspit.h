@@ -91,6 +91,8 @@
  *
  * A set applies if each of its conditions holds. Its limits below the top speed are laid from start to end; if the set is no
  * head-end set, the train's length is added to the end.
+ * After new, extend, clear, reindex and finish with one train the speed posted at an offset is, as a number, the smallest of the top
+ * speed and of all limits laid that cover it, from the start up to but not including the end, those of dropped links among them.
  */
 #ifndef MOCHASPIT_H
 #define MOCHASPIT_H

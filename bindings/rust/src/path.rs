@@ -52,7 +52,8 @@ impl Path {
         Ok(Path { record: done.path, columns })
     }
 
-    /// Joins these links to the path's end, with their limits, grades, curves and power limits.
+    /// Joins these links to the path's end, with their limits, grades, curves and power limits. A limit holds from its start up to its end,
+    /// the train's length added unless its set is a head-end set, and is released there.
     ///
     /// Refused with 1 and 3 to 9; for 4 to 8 the place is the first failing position in the list. The train should be the one that
     /// the path was made for.

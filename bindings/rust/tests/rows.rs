@@ -17,11 +17,16 @@ fn raw_train() -> sys::Train {
     sys::Train { length: 50.0, speed_max: 30.0, ..sys::Train::default() }
 }
 
-/// The speed points after one limit is laid on (0,30),(100,20).
-fn laid_on_two(limit: (f64, f64, f64)) -> Vec<(f64, f64)> {
-    let mut raw = Raw::start(raw_train()).with_speeds(&[(0.0, 30.0), (100.0, 20.0)]);
+/// The speed points after one limit is laid on two others.
+fn laid_on(points: [(f64, f64); 2], limit: (f64, f64, f64)) -> Vec<(f64, f64)> {
+    let mut raw = Raw::start(raw_train()).with_speeds(&points);
     assert_eq!(raw.extend(raw_train(), &[1], &Table::of(&[300.0], &[limit])), sys::Answer::default());
     raw.points()
+}
+
+/// The speed points after one limit is laid on (0,30),(100,20).
+fn laid_on_two(limit: (f64, f64, f64)) -> Vec<(f64, f64)> {
+    laid_on([(0.0, 30.0), (100.0, 20.0)], limit)
 }
 
 #[test]
@@ -34,7 +39,7 @@ fn s1_to_s3_and_s8() {
 
 #[test]
 fn s4_to_s7() {
-    assert_eq!(laid_on_two((20.0, 40.0, 15.0)), [(0.0, 30.0), (20.0, 15.0), (100.0, 20.0)]);
+    assert_eq!(laid_on_two((20.0, 40.0, 15.0)), [(0.0, 30.0), (20.0, 15.0), (40.0, 30.0), (100.0, 20.0)]);
     assert_eq!(laid_on_two((20.0, 100.0, 15.0)), [(0.0, 30.0), (20.0, 15.0), (100.0, 20.0)]);
     assert_eq!(laid_on_two((50.0, 150.0, 25.0)), [(0.0, 30.0), (50.0, 25.0), (100.0, 20.0)]);
     assert_eq!(laid_on_two((50.0, 150.0, 10.0)), [(0.0, 30.0), (50.0, 10.0), (150.0, 20.0)]);
@@ -45,10 +50,39 @@ fn s4_to_s7() {
 fn s4_to_s7_before_a_release() {
     let after = |limit| laid(&[(100.0, 900.0, 20.0), limit]);
     let end = (900.0, 30.0);
-    assert_eq!(after((20.0, 40.0, 15.0)), [(0.0, 30.0), (20.0, 15.0), (100.0, 20.0), end]);
+    assert_eq!(after((20.0, 40.0, 15.0)), [(0.0, 30.0), (20.0, 15.0), (40.0, 30.0), (100.0, 20.0), end]);
     assert_eq!(after((20.0, 100.0, 15.0)), [(0.0, 30.0), (20.0, 15.0), (100.0, 20.0), end]);
     assert_eq!(after((50.0, 150.0, 25.0)), [(0.0, 30.0), (50.0, 25.0), (100.0, 20.0), end]);
     assert_eq!(after((50.0, 150.0, 10.0)), [(0.0, 30.0), (50.0, 10.0), (150.0, 20.0), end]);
+}
+
+/// A short board inside a stretch: the speed is that of the stretch before it, the board's on it, and that of the stretch again behind it.
+#[test]
+fn a_limit_between_two_points_ends_at_its_end() {
+    let table = LinkTable::from_iter([&link(300.0, 0, &[(100.0, 200.0, 20.0), (20.0, 40.0, 15.0), (120.0, 140.0, 5.0)])]);
+    let path = path_of(&table, &[1]);
+    let points = [(0.0, 30.0), (20.0, 15.0), (40.0, 30.0), (100.0, 20.0), (120.0, 5.0), (140.0, 20.0), (200.0, 30.0)];
+    assert_eq!(speeds(&path), points);
+    for (offset, speed) in [(19.9, 30.0), (20.0, 15.0), (39.9, 15.0), (40.0, 30.0), (99.9, 30.0), (100.0, 20.0)] {
+        assert_eq!(path.posted_speed(offset), Some(speed));
+    }
+    for (offset, speed) in [(119.9, 20.0), (120.0, 5.0), (139.9, 5.0), (140.0, 20.0), (199.9, 20.0), (200.0, 30.0)] {
+        assert_eq!(path.posted_speed(offset), Some(speed));
+    }
+}
+
+/// Strictly between two points a limit of no length changes nothing, nor does one above the speed there, and no point goes out. Behind the last
+/// point one of no length adds two points at its offset, of which the second is posted.
+#[test]
+fn a_limit_between_two_points_that_changes_nothing() {
+    let stretch = (100.0, 200.0, 20.0);
+    let points = [(0.0, 30.0), (100.0, 20.0), (200.0, 30.0)];
+    assert_eq!(laid(&[stretch, (20.0, 20.0, 15.0)]), points);
+    assert_eq!(laid(&[stretch, (150.0, 150.0, -5.0)]), points);
+    assert_eq!(laid(&[stretch, (120.0, 140.0, 25.0)]), points);
+    assert_eq!(laid_on_two((20.0, 20.0, 20.0)), [(0.0, 30.0), (100.0, 20.0)]);
+    assert_eq!(laid_on([(0.0, 10.0), (100.0, 10.0)], (20.0, 40.0, 15.0)), [(0.0, 10.0), (100.0, 10.0)]);
+    assert_eq!(laid(&[(20.0, 20.0, 15.0)]), [(0.0, 30.0), (20.0, 15.0), (20.0, 30.0)]);
 }
 
 #[test]

@@ -64,18 +64,19 @@ struct Facts {
     tail: f64,
 }
 
+/// The limits of a link that are laid for a train, as the link has them, and how far behind their end they reach; none where it has no set for the train.
+pub fn limits_laid(l: &Lk, t: &Train) -> Option<(Vec<[f64; 3]>, f64)> {
+    let s = l.sets[0].as_ref().or(l.sets[1 + t.train_type as usize].as_ref())?;
+    let applies = s.conds.iter().all(|c| holds(c, t));
+    let laid = s.lims.iter().copied().filter(|x| applies && x[2] < t.speed_max).collect();
+    Some((laid, if s.head_end == 1 { 0.0 } else { t.length }))
+}
+
 fn facts(e: &Entry, n: usize, t: &Train) -> Facts {
-    let l = &e.link;
-    let mut f = Facts { formed: formed(e, n), has_set: false, laid: vec![], tail: 0.0 };
-    let own = l.sets[0].as_ref().or(l.sets[1 + t.train_type as usize].as_ref());
-    if let Some(s) = own {
-        f.has_set = true;
-        f.tail = if s.head_end == 1 { 0.0 } else { t.length };
-        if s.conds.iter().all(|c| holds(c, t)) {
-            f.laid = s.lims.iter().copied().filter(|x| x[2] < t.speed_max).collect();
-        }
-    }
-    f
+    let own = limits_laid(&e.link, t);
+    let has_set = own.is_some();
+    let (laid, tail) = own.unwrap_or_default();
+    Facts { formed: formed(e, n), has_set, laid, tail }
 }
 
 fn all_facts(table: &[Entry], t: &Train) -> Vec<Facts> {

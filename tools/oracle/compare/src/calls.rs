@@ -2,10 +2,11 @@
 use crate::ask_path;
 use crate::columns::{counts, Cols};
 use crate::judge::{Run, Verdict, OWN};
+use crate::lay::{self, Laid};
 use crate::original::{self, Out};
 use crate::port;
 use crate::table::{Entry, Flat};
-use altrios_core::track::Link;
+use altrios_core::track::{Link, PathTpc as OriginalPath};
 use mochaspit::sys::{PathTpc, Train, TrainState};
 
 #[derive(Clone, Debug)]
@@ -95,7 +96,7 @@ impl Table {
 pub struct State {
     pub path: PathTpc,
     pub cols: Cols,
-    pub original: altrios_core::track::PathTpc,
+    pub original: OriginalPath,
 }
 
 /// The speed points that R52 gives where none is at the kept beginning of a trim.
@@ -113,15 +114,30 @@ pub fn moved_speeds(x: f64, p: &PathTpc, c: &Cols) -> Option<Vec<f64>> {
     Some(v)
 }
 
-/// The original's side of a call: what it answers, and the path that it leaves. Under R174 it is handed the points of R52.
-fn original_side(
-    run: &mut Run,
-    call: &Call,
-    st: &State,
-    t: &Train,
-    table: &Table,
-    fine: bool,
-) -> (Out<Vec<u64>>, altrios_core::track::PathTpc) {
+/// The path that the original leaves, with the speed points that the rules give: other points than its own only where a limit lies between two (R23).
+pub fn with_laid(laid: &Laid, q: OriginalPath) -> OriginalPath {
+    if laid.between > 0 {
+        original::with_speeds(&q, &laid.numbers())
+    } else {
+        q
+    }
+}
+
+/// The same, counted. Where no limit lies between two points, the original's own have to be those that the rules give.
+fn hand_limits(run: &mut Run, call: &Call, laid: &Laid, q: OriginalPath) -> OriginalPath {
+    let y = &mut run.tally;
+    y.limits += laid.limits;
+    y.between += laid.between;
+    y.no_length += laid.no_length;
+    y.calls_between += (laid.between > 0) as u64;
+    if laid.between == 0 && !laid.are(q.speed_points()) {
+        run.differs(format!("{}: the original's speed points are not those of its limits laid one by one", call.name()));
+    }
+    with_laid(laid, q)
+}
+
+/// The original's side of a call: what it answers, and the path that it leaves. Under R174 it is handed the points of R52, under R23 those of `lay`.
+fn original_side(run: &mut Run, call: &Call, st: &State, t: &Train, table: &Table, fine: bool) -> (Out<Vec<u64>>, OriginalPath) {
     let mut q = st.original.clone();
     if let (Call::Clear(x), true) = (call, fine) {
         if let Some(v) = moved_speeds(*x, &st.path, &st.cols) {
@@ -132,6 +148,11 @@ fn original_side(
         }
     }
     let out = original::path_call(call, &mut q, t, &table.net);
+    if let (Out::Done(_), true) = (&out, fine) {
+        if let Some(laid) = lay::laid(call, &st.original, t, &table.net) {
+            q = hand_limits(run, call, &laid, q);
+        }
+    }
     let out = match (out, call) {
         (Out::Done(_), Call::LinkGrades(k)) if fine => Out::Done(ask_path::link_range(*k, 0, &st.cols).to_vec()),
         (Out::Done(_), Call::LinkCurves(k)) if fine => Out::Done(ask_path::link_range(*k, 1, &st.cols).to_vec()),

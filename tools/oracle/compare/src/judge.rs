@@ -21,13 +21,23 @@ pub struct Tally {
     /// trims under R174, and how many of these panic in the original
     pub moved: u64,
     pub moved_panics: u64,
+    /// limits laid, those strictly between two neighbouring points, those of them without length, and calls with one between two
+    pub limits: u64,
+    pub between: u64,
+    pub no_length: u64,
+    pub calls_between: u64,
     /// searches with the largest hint, which the original counts on from 0
     pub wrapped: u64,
+    /// paths whose posted speed was held to the limits, paths laid in two orders, and the offsets asked about
+    pub exact: u64,
+    pub orders: u64,
+    pub asked: u64,
     pub most_links: usize,
     pub most_speeds: usize,
     pub most_grades: usize,
-    /// every so many calls one bit of the port's answer is flipped; 0: never
+    /// every so many calls one bit of the port's answer is flipped, and every so many checks one of a posted speed; 0: never
     pub spoil: u64,
+    pub checks: u64,
     pub spoiled: u64,
     pub noticed: u64,
 }
@@ -97,6 +107,21 @@ impl<'a> Run<'a> {
     fn spoils(&mut self) -> bool {
         self.tally.calls += 1;
         self.tally.spoil != 0 && self.tally.calls.is_multiple_of(self.tally.spoil)
+    }
+    /// Flips a bit of one of the numbers, not that of its sign, where this check's turn has come: how many differences there were before.
+    pub fn spoil_number(&mut self, v: &mut [f64]) -> Option<usize> {
+        self.tally.checks += 1;
+        if v.is_empty() || self.tally.spoil == 0 || !self.tally.checks.is_multiple_of(self.tally.spoil) {
+            return None;
+        }
+        self.tally.spoiled += 1;
+        let k = self.r.to(v.len());
+        v[k] = f64::from_bits(v[k].to_bits() ^ 1 << self.r.to(63));
+        Some(self.differences.len())
+    }
+    /// Counts a flipped number that made a difference.
+    pub fn notice(&mut self, before: Option<usize>) {
+        self.tally.noticed += before.is_some_and(|n| self.differences.len() > n) as u64;
     }
     /// Judges one answer, and the columns where the call has them: what was lent, what came back, and what a done call leaves.
     pub fn judge(&mut self, mut v: Verdict, columns: Option<(&Cols, &mut Cols, &Cols)>) {

@@ -7,6 +7,7 @@ pub mod calls;
 pub mod columns;
 pub mod damage;
 pub mod judge;
+pub mod lay;
 pub mod list_calls;
 pub mod original;
 pub mod port;

@@ -6,7 +6,7 @@ use compare::scenarios::{self, KINDS};
 use compare::vectors;
 
 const USAGE: &str = "usage: compare SEED COUNT [KIND] | compare show KIND SEED | compare vectors SEED COUNT FOLDER
-kinds: paths, long, lists, positions, damaged
+kinds: paths, long, lists, positions, damaged, exact
 CMP_SPOIL=N: every N-th call one bit of the port's answer is flipped, to see that the comparison notices";
 
 fn usage() -> ! {

@@ -82,6 +82,11 @@ pub fn calls(t: &Tally) {
     println!("scenarios {}, calls {}, column entries and words compared {}", t.scenarios, t.calls, t.entries);
     println!("longest path: {} link points, {} grades, {} speed points", t.most_links, t.most_grades, t.most_speeds);
     println!("trims under R174: {} (the original panics in {})", t.moved, t.moved_panics);
+    println!(
+        "limits laid: {}, strictly between two neighbouring points (R23): {} ({} of no length), in {} calls",
+        t.limits, t.between, t.no_length, t.calls_between
+    );
+    println!("paths held to their limits exactly: {}, paths laid in two orders: {}, offsets asked about: {}", t.exact, t.orders, t.asked);
     println!("searches from the largest index, refused with 11, where the original's index wraps: {}", t.wrapped);
 }
 

@@ -147,24 +147,40 @@ fn link_by_link() {
     beside("one of these calls (right) beside one pass over the columns to their ends (left)", ours_time / 1000, each);
 }
 
-/// Limits laid on speed points: 2,000 behind the last point, and then 97 in the midst of 3,900.
+/// One extension by limits on a path whose link 1 left 3,900 speed points; each side lays them on points of its own.
+fn among(what: &str, limits: Vec<[f64; 3]>) {
+    let mixed = two_links((0..1950).map(apart).collect(), limits);
+    let before = || extended(&mixed, &[1]);
+    let theirs = |s: &mut State| s.original.extend(&mixed.net, indices(&[2])).unwrap();
+    let ours = |s: &mut State| port::extend(s.path, train(), &[2], &mut s.cols, &mixed.flat);
+    let mut both = before();
+    let from = both.path.speed_count;
+    theirs(&mut both);
+    both.path = ours(&mut both).path;
+    let (to, own) = (both.path.speed_count, both.original.speed_points().len());
+    if own == to {
+        same(&both);
+    }
+    let name = format!("insert_speed: {what}, {from} to {to} points (original {own})");
+    line(&name, best(25, before, theirs), best(25, before, ours));
+}
+
+fn apart(k: usize) -> [f64; 3] {
+    [4.0 * k as f64, 4.0 * k as f64 + 1.0, 10.0]
+}
+
+/// Limits laid on speed points: 2,000 behind the last point, then 97 in the midst of 3,900, and 97 there that lie strictly between two points.
 fn limits() {
-    let apart = |k: usize| [4.0 * k as f64, 4.0 * k as f64 + 1.0, 10.0];
-    // each ends where a point stands: its beginning is a new point, and nothing goes out
-    let midst = |k: usize| [4.0 * (900 + k) as f64 + 1.0, 4.0 * (900 + k) as f64 + 3.0, 20.0];
     let appended = two_links((0..2000).map(apart).collect(), vec![]);
     let theirs = |s: &mut State| s.original.extend(&appended.net, indices(&[1])).unwrap();
     let ours = |s: &mut State| port::extend(s.path, train(), &[1], &mut s.cols, &appended.flat);
     let points = extended(&appended, &[1]).path.speed_count;
     let name = format!("insert_speed: one extension, 2,000 limits appended, {points} points");
     line(&name, best(9, empty, theirs), best(9, empty, ours));
-    let mixed = two_links((0..1950).map(apart).collect(), (0..97).map(midst).collect());
-    let before = || extended(&mixed, &[1]);
-    let (from, to) = (before().path.speed_count, extended(&mixed, &[1, 2]).path.speed_count);
-    let theirs = |s: &mut State| s.original.extend(&mixed.net, indices(&[2])).unwrap();
-    let ours = |s: &mut State| port::extend(s.path, train(), &[2], &mut s.cols, &mixed.flat);
-    let name = format!("insert_speed: one extension, 97 limits in the midst, {from} to {to} points");
-    line(&name, best(25, before, theirs), best(25, before, ours));
+    // each ends where a point stands: its beginning is a new point, and nothing goes out
+    among("one extension, 97 limits in the midst", (0..97).map(|k| [4.0 * (900 + k) as f64 + 1.0, 4.0 * (900 + k) as f64 + 3.0, 20.0]).collect());
+    // the port releases each at its end, so that two points go in; the original has one
+    among("97 of them strictly between two points", (0..97).map(|k| [4.0 * (900 + k) as f64 + 1.0, 4.0 * (900 + k) as f64 + 2.0, 20.0]).collect());
 }
 
 fn position(offset: f64, length: f64) -> TrainState {

@@ -1,12 +1,13 @@
 //! The kinds of scenarios: each makes its input from a seed, and calls both sides.
 mod damaged;
+mod exact;
 pub mod lists;
 pub mod paths;
 mod positions;
 
 use crate::judge::Run;
 
-pub const KINDS: [&str; 5] = ["paths", "long", "lists", "positions", "damaged"];
+pub const KINDS: [&str; 6] = ["paths", "long", "lists", "positions", "damaged", "exact"];
 
 /// Runs one scenario of a kind.
 pub fn run(kind: usize, run: &mut Run) {
@@ -15,6 +16,7 @@ pub fn run(kind: usize, run: &mut Run) {
         1 => paths::run(run, true),
         2 => lists::run(run),
         3 => positions::run(run),
-        _ => damaged::run(run),
+        4 => damaged::run(run),
+        _ => exact::run(run),
     }
 }

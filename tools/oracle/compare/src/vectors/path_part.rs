@@ -1,8 +1,9 @@
 //! Vectors of the path's calls and of positions: a train and a table, and then calls in any order.
 use super::{code, expected, real, whole, Vectors};
 use crate::ask_path::{self, train_fine};
-use crate::calls::{moved_speeds, Call, State, Table};
+use crate::calls::{moved_speeds, with_laid, Call, State, Table};
 use crate::columns::Cols;
+use crate::lay;
 use crate::original::{self, Out};
 use crate::random_table::{table, Taste};
 use crate::random_train::{position, train};
@@ -160,6 +161,9 @@ fn step(v: &mut Vectors, st: &mut State, call: &Call, t: &Train, table: &Table) 
     };
     let Ok(done) = expected(asked, out) else { return };
     if done.is_some() {
+        if let Some(laid) = lay::laid(call, &st.original, t, &table.net) {
+            q = with_laid(&laid, q);
+        }
         (st.path, st.cols) = (original::counted(&q), original::columns(&q, LENGTHS));
         st.original = q;
     }
