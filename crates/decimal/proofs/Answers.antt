@@ -1,15 +1,17 @@
 -- What a text is, by what was found of it.
-use Prim.Native.Nat.{ℕ, _≤_, _<_}
+use Prim.Native.Nat.{ℕ, _-_, _≤_, _<_}
 use native.Mathlib.Omega.{arith}
 use mathlib.Core.Path.{_≡_, refl, sym, ap, _∙_}
-use mathlib.Core.Bool.{Bool, true, false, cond, and-false}
+use mathlib.Core.Bool.{Bool, true, false, cond, and-false, false≢true}
 use mathlib.Core.List.{List, [], _∷_}
 use borrow.Author.Tests.{eq-eqb, ne-eqb, le-leb, lt-leb}
-use lib.ListN.{length, drop, getD}
+use lib.Dec.{eqb}
+use lib.ListN.{length, take, drop, getD, length-drop}
+use lib.Seq.{take-all}
 use lib.Ieee.{Float, binary64, ofBits}
 use Rattle.decimal.specs.Decimal.{digitsOf, valueOf, readDecimal}
 use Rattle.decimal.specs.Digits.{allDigits, wholeFrom}
-use Rattle.decimal.specs.Number.{readNumber, readWhole}
+use Rattle.decimal.specs.Number.{hasMark, behindMark, readNumber, readWhole}
 use Rattle.decimal.specs.declared.decimal.Digits.{Digits}
 use Rattle.decimal.specs.declared.decimal.Reading.{Reading}
 use Rattle.decimal.specs.declared.decimal.Reading.the-variants.{Is, Not}
@@ -32,17 +34,41 @@ decimal-plus [] d r h e x y = absurd (h refl)
 decimal-plus (b ∷ l) d r h e x y = y ∙ ap (valueOf false) x ∙ sym (ap (λ (t : Bool). cond t (valueOf true (digitsOf l)) (valueOf false (digitsOf (b ∷ l)))) (ne-eqb b 45 e))
 
 -- ---- a number
-pub number-bits : (l : List ℕ) (n : ℕ) (x : Float) → length l ≡ 16 → allDigits 16 l ≡ true → n ≡ wholeFrom 16 0 l → x ≡ ofBits binary64 n → Is x ≡ readNumber l
-unfolding readNumber
-number-bits l n x h e f g = rw (eq-eqb (length l) 16 h, e) (ap Is (g ∙ ap (ofBits binary64) f))
+-- the part from an index on
+pub tail : (l : List ℕ) (i : ℕ) → take (length l - i) (drop i l) ≡ drop i l
+tail l i = take-all (length l - i) (drop i l) (rw (length-drop i l) (omega arith))
 
-pub number-other : (l : List ℕ) (r : Reading) → allDigits 16 l ≡ false → r ≡ readDecimal l → r ≡ readNumber l
-unfolding readNumber
-number-other l r e f = rw (e, and-false) f
+pub mark-short : (l : List ℕ) → length l < 2 → false ≡ hasMark l
+mark-short [] h = refl
+mark-short (a ∷ []) h = sym (and-false (eqb a 48))
+mark-short (a ∷ b ∷ l) h = let z : ⊥ = omega arith in absurd z
 
-pub number-length : (l : List ℕ) (r : Reading) → (length l ≡ 16 → ⊥) → r ≡ readDecimal l → r ≡ readNumber l
-unfolding readNumber
-number-length l r h f = rw (ne-eqb (length l) 16 h) f
+pub mark-long : (l : List ℕ) → hasMark l ≡ true → 2 ≤ length l
+mark-long [] e = absurd (false≢true e)
+mark-long (a ∷ []) e = absurd (false≢true (sym (and-false (eqb a 48)) ∙ e))
+mark-long (a ∷ b ∷ l) e = omega arith
+
+pub marked : (l : List ℕ) → hasMark l ≡ true → take (length l - 2) (drop 2 l) ≡ behindMark l
+unfolding behindMark
+marked l e = rw e (tail l 2)
+
+pub unmarked : (l : List ℕ) → hasMark l ≡ false → [] ≡ behindMark l
+unfolding behindMark
+unmarked l e = rw e
+
+-- d is what is behind the mark
+module _ (l d : List ℕ) (m : d ≡ behindMark l) where
+  pub number-bits : (n : ℕ) (x : Float) → length d ≡ 16 → allDigits 16 d ≡ true → n ≡ wholeFrom 16 0 d → x ≡ ofBits binary64 n → Is x ≡ readNumber l
+  unfolding readNumber
+  number-bits n x h e f g = rw (← m, eq-eqb (length d) 16 h, e) (ap Is (g ∙ ap (ofBits binary64) f))
+
+  pub number-other : (r : Reading) → allDigits 16 d ≡ false → r ≡ readDecimal l → r ≡ readNumber l
+  unfolding readNumber
+  number-other r e f = rw (← m, e, and-false) f
+
+  pub number-length : (r : Reading) → (length d ≡ 16 → ⊥) → r ≡ readDecimal l → r ≡ readNumber l
+  unfolding readNumber
+  number-length r h f = rw (← m, ne-eqb (length d) 16 h) f
 
 -- ---- a whole number
 pub whole-empty : (l : List ℕ) → length l ≡ 0 → Wholes.Not ≡ readWhole l

@@ -5,4 +5,6 @@ pub mod DigitSteps
 pub mod Quotient
 pub mod Patterns
 pub mod Answers
+pub mod Faults
+pub mod FaultLaws
 pub mod Samples

@@ -15,7 +15,7 @@ use Rattle.decimal.specs.Decimal.{step, digitsFrom}
 use Rattle.decimal.proofs.Bytes.{both}
 
 -- the byte at an index, and those after it
-rest : (l : List ℕ) (i : ℕ) → i < length l → drop i l ≡ getD l i 0 ∷ drop (i + 1) l
+pub rest : (l : List ℕ) (i : ℕ) → i < length l → drop i l ≡ getD l i 0 ∷ drop (i + 1) l
 rest l i h = rw add-one (drop-cons l i 0 h)
 
 -- ---- a result that is carried along

@@ -3,3 +3,5 @@ pub mod Digits
 pub mod Decimal
 pub mod Known
 pub mod Number
+pub mod Kinds
+pub mod Fault

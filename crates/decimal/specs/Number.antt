@@ -1,9 +1,9 @@
--- A number of a text: 16 hex digits are its bits, anything else is a decimal. A whole number is digits alone, below 2 ^ 32. Definitions only.
+-- A number of a text: 0x and 16 hex digits are its bits, anything else is a decimal. A whole number is digits alone, below 2 ^ 32. Definitions only.
 use Prim.Native.Nat.{ℕ}
-use mathlib.Core.Bool.{_&&_, cond}
-use mathlib.Core.List.{List}
+use mathlib.Core.Bool.{Bool, _&&_, cond}
+use mathlib.Core.List.{List, []}
 use lib.Dec.{leb, eqb}
-use lib.ListN.{length}
+use lib.ListN.{length, drop, getD}
 use lib.Ieee.{ofBits, binary64}
 use Rattle.decimal.specs.Digits.{allDigits, wholeFrom}
 use Rattle.decimal.specs.declared.decimal.Reading.{Reading}
@@ -12,9 +12,19 @@ use Rattle.decimal.specs.declared.whole.Whole.{Whole}
 use Rattle.decimal.specs.declared.whole.Whole.the-variants as Wholes
 use Rattle.decimal.specs.Decimal.{readDecimal}
 
+-- begins with 0x
+abbrev pub hasMark : List ℕ → Bool
+hasMark l = eqb (getD l 0 0) 48 && eqb (getD l 1 0) 120
+
+-- what is behind 0x; nothing where a text does not begin so
+unfoldable pub behindMark : List ℕ → List ℕ
+behindMark l = cond (hasMark l) (drop 2 l) []
+
 unfoldable pub readNumber : List ℕ → Reading
-unfolding allDigits wholeFrom readDecimal ofBits
-readNumber l = cond (eqb (length l) 16 && allDigits 16 l) (Is (ofBits binary64 (wholeFrom 16 0 l))) (readDecimal l)
+unfolding behindMark allDigits wholeFrom readDecimal ofBits
+readNumber l =
+    let d = behindMark l in
+    cond (eqb (length d) 16 && allDigits 16 d) (Is (ofBits binary64 (wholeFrom 16 0 d))) (readDecimal l)
 
 -- one to ten digits, below 2 ^ 32
 unfoldable pub readWhole : List ℕ → Whole

@@ -1,4 +1,4 @@
-// An f64 out of text: 16 hex digits are its bits, anything else is a decimal.
+// An f64 out of text: 0x and 16 hex digits are its bits, anything else is a decimal.
 use crate::decimal::Reading;
 use crate::decimal::read_decimal;
 use crate::digits::all_digits;
@@ -17,13 +17,34 @@ fn of_bits(bits: u64) -> f64
     f64::from_bits(bits)
 }
 
+// Whether a text begins with 0x.
+pub fn has_mark(text: &[u8]) -> bool
+    ensures { λ r. ⌜ r ≡ spec.hasMark (now (text .entry)) ⌝ }
+{
+    if text.len() < 2 {
+        return false;
+    }
+    (text[0] == b'0') & (text[1] == b'x')
+}
+
+// What is behind 0x; nothing where a text does not begin so.
+fn behind_mark(text: &[u8]) -> &[u8]
+    ensures { λ r. ⌜ now r ≡ spec.behindMark (now (text .entry)) ⌝ }
+{
+    if has_mark(text) {
+        return &text[2..];
+    }
+    &text[0..0]
+}
+
 // The number that a text is.
 pub fn read_number(text: &[u8]) -> Reading
     ensures { λ r. ⌜ r ≡ spec.readNumber (now (text .entry)) ⌝ }
 {
-    if text.len() == 16 {
-        if all_digits(text, 16) {
-            return Reading::Is(of_bits(digits_number(text, 16)));
+    let digits = behind_mark(text);
+    if digits.len() == 16 {
+        if all_digits(digits, 16) {
+            return Reading::Is(of_bits(digits_number(digits, 16)));
         }
     }
     read_decimal(text)

@@ -10,7 +10,7 @@ use route::fields::direction_code;
 use route::fields::is_word;
 use route::text::Span;
 
-// The number that a field is: a decimal, 16 hex digits that are its bits, or nan, inf, -inf.
+// The number that a field is: a decimal, 0x and 16 hex digits that are its bits, or nan, inf, -inf.
 pub fn reading(w: &[u8]) -> Reading {
     if is_word(w, b"nan") {
         return Reading::Is(0.0 / 0.0);
