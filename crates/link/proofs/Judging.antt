@@ -112,7 +112,7 @@ module _ (elevs headings powers : List Float) (districts : List ℕ) (n : LinkNu
       asks-districts h = rw (in-elevs, in-headings, le-leb (3 * (n .«powers_first» + n .«powers_count»)) (length powers) (omega arith), one-mul (n .«powers_first» + n .«powers_count»))
 
 -- a power limit is judged as a limit: its district does not matter
-powers-limits : (powers : List Float) (districts : List ℕ) (first count : ℕ) → every powerFormed (upFrom (powerAt powers districts) first count) ≡ every limitFormed (upFrom (limitAt powers) first count)
+pub powers-limits : (powers : List Float) (districts : List ℕ) (first count : ℕ) → every powerFormed (upFrom (powerAt powers districts) first count) ≡ every limitFormed (upFrom (limitAt powers) first count)
 unfolding every upFrom
 powers-limits powers districts first zero = refl
 powers-limits powers districts first (suc n) = ap (λ (b : Bool). limitFormed (limitAt powers first) && b) (powers-limits powers districts (suc first) n)

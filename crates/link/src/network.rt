@@ -126,7 +126,7 @@ fn sets_formed(sets: &[u32], codes: &[u32], values: &[f64], limits: &[f64], i: u
 }
 
 // Whether the ranges of elevations, headings and power limits lie inside their pools.
-fn in_pools(
+pub fn in_pools(
     elevs: &[f64],
     headings: &[f64],
     powers: &[f64],

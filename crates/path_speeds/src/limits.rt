@@ -43,7 +43,7 @@ pub fn applying_set(
 }
 
 // What the set's limits hold on behind their end: nothing for a head-end set, else the train's length.
-fn tail_of(s: SpeedSet, length: Length) -> Length
+pub fn tail_of(s: SpeedSet, length: Length) -> Length
     ensures { λ r. ⌜ r .0 ≡ spec.tailOf (length .0) s ⌝ }
 {
     if s.is_head_end == 1 {
@@ -53,7 +53,7 @@ fn tail_of(s: SpeedSet, length: Length) -> Length
 }
 
 // A limit as it is laid: base and tail added.
-fn placed(l: SpeedLimit, base: Length, tail: Length) -> SpeedLimit
+pub fn placed(l: SpeedLimit, base: Length, tail: Length) -> SpeedLimit
     ensures { λ r. ⌜ limitOf r ≡ spec.placed (base .0) (tail .0) (limitOf l) ⌝ }
 {
     SpeedLimit {

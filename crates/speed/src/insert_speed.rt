@@ -24,7 +24,7 @@ ghost use Rattle.speed.specs.Column.{points, Holds, Leaves};
 ghost use Rattle.speed.specs.Insert.{dropRepeat, merge, ends, layEnd, layStart, between, layBetween, layLimit, appendChange, appendLimit, insertSpeed};
 
 // Takes point i out if the point before it has its speed.
-fn drop_repeat(col: &mut [f64], n: usize, i: usize) -> usize
+pub fn drop_repeat(col: &mut [f64], n: usize, i: usize) -> usize
     requires { ⌜ i < n ⌝ }
     requires { ⌜ 2 * n ≤ length (now col) ⌝ }
     requires { ⌜ Holds (now col) (points n (now col)) ⌝ }
