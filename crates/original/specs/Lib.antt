@@ -1,0 +1,2 @@
+-- Definitions of the crate original.
+pub mod Original
