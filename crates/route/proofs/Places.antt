@@ -1,14 +1,14 @@
--- The first place where a test fails, byte by byte; one field after another; the bytes of a span.
+-- The first place where a test fails, byte by byte; one field after another; the bytes of a span; the next line.
 use Prim.Native.Nat.{ℕ, zero, suc, _+_, _-_, _≤_, _<_}
 use native.Mathlib.Numerals.{add-one}
 use native.Mathlib.Omega.{arith}
 use mathlib.Core.Path.{_≡_, refl, sym, ap, _∙_}
 use mathlib.Core.Bool.{Bool, true, false, not, cond}
 use mathlib.Core.List.{List, []}
-use borrow.Author.Tests.{not-true, not-false, le-leb, lt-leb}
+use borrow.Author.Tests.{not-true, not-false, le-leb, lt-leb, lt-ltb, le-ltb, eq-eqb, ne-eqb}
 use lib.ListN.{length, take, drop, getD, drop-of-length-le}
 use lib.Seq.{drop-cons}
-use Rattle.route.specs.Text.{past, fieldFrom, field, bytesOf}
+use Rattle.route.specs.Text.{past, fieldFrom, field, bytesOf, inLine, nextLine}
 use Rattle.route.specs.declared.text.Span.{Span}
 
 -- ---- the first place from i on that fails the test p, where r is the test of the byte at i
@@ -51,3 +51,21 @@ module _ (text : List ℕ) (s : Span) where
   bytes-none h k =
       let e : s .to - s .from ≡ 0 = omega arith in
       rw e at (bytes-inside h)
+
+-- ---- the line behind the one at `at`: the line end at or behind i is the one at or behind `at`
+module _ (l : List ℕ) (at i : ℕ) where
+  pub line-on : i < length l → (getD l i 0 ≡ 10 → ⊥) → past inLine l (i + 1) ≡ past inLine l i
+  unfolding inLine
+  line-on h n = past-next inLine l i true h (rw (ne-eqb (getD l i 0) 10 n)) refl
+
+  pub line-end : i < length l → getD l i 0 ≡ 10 → past inLine l i ≡ past inLine l at → i + 1 ≡ nextLine l at
+  unfolding inLine nextLine
+  line-end h n e =
+      let here : i ≡ past inLine l at = past-stop inLine l i false h (rw (eq-eqb (getD l i 0) 10 n)) refl ∙ e in
+      rw (← here, lt-ltb i (length l) h, add-one)
+
+  pub line-last : i ≡ length l → past inLine l i ≡ past inLine l at → i ≡ nextLine l at
+  unfolding nextLine
+  line-last h e =
+      let here : i ≡ past inLine l at = past-end inLine l i (omega arith) ∙ e in
+      rw (← here, le-ltb i (length l) (omega arith)) h

@@ -3,6 +3,7 @@ use Prim.Native.Nat.{ℕ}
 use mathlib.Core.Bool.{Bool, true, false, _&&_}
 use mathlib.Core.List.{List, [], _∷_}
 use lib.Dec.{eqb}
+use lib.ListN.{length}
 use Rattle.decimal.specs.declared.decimal.Reading.{Reading}
 use Rattle.decimal.specs.declared.decimal.Reading.the-variants as Reads
 use Rattle.decimal.specs.declared.whole.Whole.{Whole}
@@ -23,6 +24,11 @@ same (a ∷ l) (b ∷ m) = eqb a b && same l m
 unfoldable pub fieldBytes : List ℕ → ℕ → ℕ → List ℕ
 unfolding field bytesOf
 fieldBytes text at k = bytesOf text (field text at k)
+
+-- whether the line has no field k
+unfoldable pub noField : List ℕ → ℕ → ℕ → Bool
+unfolding fieldBytes
+noField text at k = eqb (length (fieldBytes text at k)) 0
 
 -- the number that field k is
 unfoldable pub numberAt : List ℕ → ℕ → ℕ → Reading

@@ -2,7 +2,7 @@
 use Prim.Native.Nat.{ℕ, zero, suc, _+_, _-_}
 use mathlib.Core.Bool.{Bool, _||_, not, cond}
 use mathlib.Core.List.{List, [], _∷_}
-use lib.Dec.{eqb, leb}
+use lib.Dec.{eqb, leb, ltb}
 use lib.ListN.{length, take, drop}
 use Rattle.route.specs.declared.text.Span.{Span}
 
@@ -38,3 +38,14 @@ field text at (suc k) = field text (fieldFrom text at .to) k
 -- the bytes of a span; none where it lies outside the text
 unfoldable pub bytesOf : List ℕ → Span → List ℕ
 bytesOf text s = cond (leb (s .to) (length text)) (take (s .to - s .from) (drop (s .from) text)) []
+
+-- no line end
+unfoldable pub inLine : ℕ → Bool
+inLine b = not (eqb b 10)
+
+-- the place behind the first line end from `at` on; the text's end where there is none
+unfoldable pub nextLine : List ℕ → ℕ → ℕ
+unfolding inLine past
+nextLine text at =
+    let end = past inLine text at in
+    cond (ltb end (length text)) (suc end) (length text)

@@ -1,12 +1,15 @@
 // Numbers and words out of the fields of a line.
 use crate::text::field;
+use crate::text::field_from;
 use crate::text::part;
 use decimal::decimal::Reading;
 use decimal::number::read_number;
 use decimal::whole::Whole;
 use decimal::whole::read_whole;
 ghost use mathlib.Core.Path.{_≡_};
+ghost use Prim.Native.Nat.{_-_};
 ghost use Rattle.route.specs.Fields as spec;
+ghost use Rattle.route.specs.Codes as codes;
 
 // The bytes of field k, from 0, of the line at `at`; none where the line has no such field.
 pub fn bytes_at(text: &[u8], at: usize, k: usize) -> &[u8]
@@ -68,99 +71,70 @@ pub fn count_at(text: &[u8], at: usize, k: usize) -> u32
     }
 }
 
+// The code of a word in a list of words apart by blanks, whose codes are those from `first` up to `end`; `other` for any other word.
+pub fn code_in(w: &[u8], words: &[u8], first: u32, end: u32, other: u32) -> u32
+    ensures { λ r. ⌜ r ≡ codes.codeOf other (codes.numbered (now (words .entry)) 0 first (end - first)) (now (w .entry)) ⌝ }
+{
+    let mut at = 0;
+    let mut code = first;
+    while code < end {
+        let s = field_from(words, at);
+        if is_word(w, part(words, s)) {
+            return code;
+        }
+        at = s.to;
+        code += 1;
+    }
+    other
+}
+
 // The code of a train type, 0 to 6 in the Rust's order; 7 for any other word.
-pub fn type_code(w: &[u8]) -> u32 {
-    if is_word(w, b"none") {
-        return 0;
-    }
-    if is_word(w, b"freight") {
-        return 1;
-    }
-    if is_word(w, b"passenger") {
-        return 2;
-    }
-    if is_word(w, b"intermodal") {
-        return 3;
-    }
-    if is_word(w, b"high_speed_passenger") {
-        return 4;
-    }
-    if is_word(w, b"tilt_train") {
-        return 5;
-    }
-    if is_word(w, b"commuter") {
-        return 6;
-    }
-    7
+pub fn type_code(w: &[u8]) -> u32
+    ensures { λ r. ⌜ r ≡ codes.codeOf 7 codes.types (now (w .entry)) ⌝ }
+{
+    code_in(
+        w,
+        b"none freight passenger intermodal high_speed_passenger tilt_train commuter",
+        0,
+        7,
+        7,
+    )
 }
 
 // The place of a set: 0 for all trains, else one more than the type's code; 8 for any other word.
-pub fn place_code(w: &[u8]) -> u32 {
+pub fn place_code(w: &[u8]) -> u32
+    ensures { λ r. ⌜ r ≡ codes.codeOf 8 codes.places (now (w .entry)) ⌝ }
+{
     if is_word(w, b"all") {
         return 0;
     }
-    let t = type_code(w);
-    if t < 7 {
-        return t + 1;
-    }
-    8
+    type_code(w) + 1
 }
 
 // 1 for a set whose limits end at their end, 0 for one with a tail; 2 for any other word.
-pub fn head_code(w: &[u8]) -> u32 {
-    if is_word(w, b"tail") {
-        return 0;
-    }
-    if is_word(w, b"head") {
-        return 1;
-    }
-    2
+pub fn head_code(w: &[u8]) -> u32
+    ensures { λ r. ⌜ r ≡ codes.codeOf 2 codes.tails (now (w .entry)) ⌝ }
+{
+    code_in(w, b"tail head", 0, 2, 2)
 }
 
 // The code of a condition's kind, 3 to 5; 0 for any other word.
-pub fn figure_code(w: &[u8]) -> u32 {
-    if is_word(w, b"mass") {
-        return 3;
-    }
-    if is_word(w, b"brake") {
-        return 4;
-    }
-    if is_word(w, b"axles") {
-        return 5;
-    }
-    0
+pub fn figure_code(w: &[u8]) -> u32
+    ensures { λ r. ⌜ r ≡ codes.codeOf 0 codes.figures (now (w .entry)) ⌝ }
+{
+    code_in(w, b"mass brake axles", 3, 6, 0)
 }
 
 // The code of a comparison, 1 to 5; 0 for any other word.
-pub fn comparison_code(w: &[u8]) -> u32 {
-    if is_word(w, b"=") {
-        return 1;
-    }
-    if is_word(w, b">") {
-        return 2;
-    }
-    if is_word(w, b"<") {
-        return 3;
-    }
-    if is_word(w, b">=") {
-        return 4;
-    }
-    if is_word(w, b"<=") {
-        return 5;
-    }
-    0
+pub fn comparison_code(w: &[u8]) -> u32
+    ensures { λ r. ⌜ r ≡ codes.codeOf 0 codes.comparisons (now (w .entry)) ⌝ }
+{
+    code_in(w, b"= > < >= <=", 1, 6, 0)
 }
 
 // The code of a direction: 0 unk, 1 fwd, 2 bwd; 3 for any other word.
-pub fn direction_code(w: &[u8]) -> u32 {
-    if is_word(w, b"unk") {
-        return 0;
-    }
-    if is_word(w, b"fwd") {
-        return 1;
-    }
-    if is_word(w, b"bwd") {
-        return 2;
-    }
-    3
+pub fn direction_code(w: &[u8]) -> u32
+    ensures { λ r. ⌜ r ≡ codes.codeOf 3 codes.directions (now (w .entry)) ⌝ }
+{
+    code_in(w, b"unk fwd bwd", 0, 3, 3)
 }

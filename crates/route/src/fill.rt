@@ -25,7 +25,9 @@ use si::Mass;
 use si::Ratio;
 use si::Velocity;
 ghost use Prim.Native.Nat.{_≤_};
+ghost use mathlib.Core.Path.{_≡_};
 ghost use lib.ListN.{length};
+ghost use Rattle.route.specs.Filled as spec;
 
 // The link and the set place that a line belongs to, and how many records of each pool stand before it.
 pub struct Here {
@@ -263,6 +265,8 @@ pub fn fill_table(
 
 // The whole numbers behind the word of a line, into a column; how many there are.
 pub fn fill_list(text: &[u8], at: usize, col: &mut [u32]) -> usize
+    ensures { λ r. ⌜ now (col .exit) ≡ spec.listed (now (text .entry)) at 0 (now (col .entry)) ⌝ }
+    ensures { λ r. ⌜ r ≡ spec.listLength (now (text .entry)) at 0 (now (col .entry)) ⌝ }
     ensures { λ r. ⌜ r ≤ length (now (col .exit)) ⌝ }
 {
     let mut i = 0;
@@ -276,7 +280,9 @@ pub fn fill_list(text: &[u8], at: usize, col: &mut [u32]) -> usize
     i
 }
 
-fn type_of(code: u32) -> TrainType {
+fn type_of(code: u32) -> TrainType
+    ensures { λ r. ⌜ r ≡ spec.typeOf code ⌝ }
+{
     match code {
         1 => TrainType::Freight,
         2 => TrainType::Passenger,
@@ -289,7 +295,9 @@ fn type_of(code: u32) -> TrainType {
 }
 
 // The train of the line at `at`.
-pub fn train_of(text: &[u8], at: usize) -> TrainParams {
+pub fn train_of(text: &[u8], at: usize) -> TrainParams
+    ensures { λ r. ⌜ r ≡ spec.trainOf (now (text .entry)) at ⌝ }
+{
     TrainParams {
         length: Length(float_at(text, at, 1)),
         speed_max: Velocity(float_at(text, at, 2)),

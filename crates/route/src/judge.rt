@@ -32,6 +32,9 @@ use crate::kinds::kind_of;
 use crate::text::next_line;
 use decimal::decimal::Reading;
 use decimal::whole::Whole;
+ghost use mathlib.Core.Path.{_≡_};
+ghost use Rattle.route.specs.Fields.{numberAt, wholeAt};
+ghost use Rattle.route.specs.Forms as spec;
 
 // How many records of each kind the link table has room for.
 pub const LINKS: usize = 1024;
@@ -104,7 +107,9 @@ pub fn nothing_seen() -> Seen {
     }
 }
 
-fn is_number(text: &[u8], at: usize, k: usize) -> bool {
+fn is_number(text: &[u8], at: usize, k: usize) -> bool
+    ensures { λ r. ⌜ r ≡ spec.isNumber (numberAt (now (text .entry)) at k) ⌝ }
+{
     let r = number_at(text, at, k);
     match r {
         Reading::Is(_) => true,
@@ -112,7 +117,9 @@ fn is_number(text: &[u8], at: usize, k: usize) -> bool {
     }
 }
 
-fn is_whole(text: &[u8], at: usize, k: usize) -> bool {
+fn is_whole(text: &[u8], at: usize, k: usize) -> bool
+    ensures { λ r. ⌜ r ≡ spec.isWhole (wholeAt (now (text .entry)) at k) ⌝ }
+{
     let r = whole_at(text, at, k);
     match r {
         Whole::Is(_) => true,
@@ -121,7 +128,9 @@ fn is_whole(text: &[u8], at: usize, k: usize) -> bool {
 }
 
 // Whether field k is what a letter of a form asks for: a number, a whole number, or a word of a kind.
-fn field_fits(text: &[u8], at: usize, k: usize, asks: u8) -> bool {
+fn field_fits(text: &[u8], at: usize, k: usize, asks: u8) -> bool
+    ensures { λ r. ⌜ r ≡ spec.fieldFits (now (text .entry)) at k asks ⌝ }
+{
     match asks {
         b'n' => is_number(text, at, k),
         b'w' => is_whole(text, at, k),
@@ -136,7 +145,9 @@ fn field_fits(text: &[u8], at: usize, k: usize, asks: u8) -> bool {
 }
 
 // The first field behind the line's word that a form does not have so, from 1; 0 where all fit.
-fn misfit(text: &[u8], at: usize, form: &[u8]) -> usize {
+fn misfit(text: &[u8], at: usize, form: &[u8]) -> usize
+    ensures { λ r. ⌜ r ≡ spec.misfitFrom (now (text .entry)) at 1 (now (form .entry)) ⌝ }
+{
     let mut i = 0;
     while i < form.len() {
         if !field_fits(text, at, i + 1, form[i]) {
@@ -151,7 +162,9 @@ fn misfit(text: &[u8], at: usize, form: &[u8]) -> usize {
 }
 
 // The same for a list of whole numbers, as many as there is room for.
-fn misfit_in_list(text: &[u8], at: usize) -> usize {
+fn misfit_in_list(text: &[u8], at: usize) -> usize
+    ensures { λ r. ⌜ r ≡ spec.listMisfitFrom (now (text .entry)) at 1 1025 ⌝ }
+{
     let mut i = 0;
     while i < LIST {
         if bytes_at(text, at, i + 1).len() == 0 {
@@ -169,46 +182,35 @@ fn misfit_in_list(text: &[u8], at: usize) -> usize {
 }
 
 // The first field that a line of the train or of the link table does not have as it should.
-fn table_misfit(text: &[u8], at: usize, kind: u32) -> usize {
-    if kind == TRAIN {
-        return misfit(text, at, b"nnnnwtnnn");
+fn table_misfit(text: &[u8], at: usize, kind: u32) -> usize
+    ensures { λ r. ⌜ r ≡ spec.tableMisfit (now (text .entry)) at kind ⌝ }
+{
+    match kind {
+        TRAIN => misfit(text, at, b"nnnnwtnnn"),
+        LINK => misfit(text, at, b"wnwwww"),
+        POWER => misfit(text, at, b"nnnw"),
+        SET => misfit(text, at, b"ph"),
+        WHEN => misfit(text, at, b"fcn"),
+        LIMIT => misfit(text, at, b"nnn"),
+        _ => misfit(text, at, b"nn"),
     }
-    if kind == LINK {
-        return misfit(text, at, b"wnwwww");
-    }
-    if kind == POWER {
-        return misfit(text, at, b"nnnw");
-    }
-    if kind == SET {
-        return misfit(text, at, b"ph");
-    }
-    if kind == WHEN {
-        return misfit(text, at, b"fcn");
-    }
-    if kind == LIMIT {
-        return misfit(text, at, b"nnn");
-    }
-    misfit(text, at, b"nn")
 }
 
 // The same for a call.
-fn call_misfit(text: &[u8], at: usize, kind: u32) -> usize {
-    if (kind == EXTEND) | (kind == REINDEX) {
-        return misfit_in_list(text, at);
+fn call_misfit(text: &[u8], at: usize, kind: u32) -> usize
+    ensures { λ r. ⌜ r ≡ spec.callMisfit (now (text .entry)) at kind ⌝ }
+{
+    match kind {
+        EXTEND => misfit_in_list(text, at),
+        REINDEX => misfit_in_list(text, at),
+        CLEAR => misfit(text, at, b"n"),
+        POSTED => misfit(text, at, b"n"),
+        LOCATE => misfit(text, at, b"nn"),
+        RESISTANCE => misfit(text, at, b"dnnn"),
+        GRADES => misfit(text, at, b"w"),
+        CURVES => misfit(text, at, b"w"),
+        _ => misfit(text, at, b""),
     }
-    if (kind == CLEAR) | (kind == POSTED) {
-        return misfit(text, at, b"n");
-    }
-    if kind == LOCATE {
-        return misfit(text, at, b"nn");
-    }
-    if kind == RESISTANCE {
-        return misfit(text, at, b"dnnn");
-    }
-    if (kind == GRADES) | (kind == CURVES) {
-        return misfit(text, at, b"w");
-    }
-    misfit(text, at, b"")
 }
 
 // One more, where there is room.

@@ -1,6 +1,8 @@
 // What a line is by its first field.
 use crate::fields::bytes_at;
-use crate::fields::is_word;
+use crate::fields::code_in;
+ghost use mathlib.Core.Path.{_≡_};
+ghost use Rattle.route.specs.Codes as spec;
 
 pub const BLANK: u32 = 0;
 
@@ -48,97 +50,19 @@ pub const POSTED: u32 = 21;
 
 pub const UNKNOWN: u32 = 22;
 
-// The kind of a line of the train or of the link table.
-fn table_kind(w: &[u8]) -> u32 {
-    if is_word(w, b"elev") {
-        return ELEV;
-    }
-    if is_word(w, b"heading") {
-        return HEADING;
-    }
-    if is_word(w, b"limit") {
-        return LIMIT;
-    }
-    if is_word(w, b"link") {
-        return LINK;
-    }
-    if is_word(w, b"set") {
-        return SET;
-    }
-    if is_word(w, b"when") {
-        return WHEN;
-    }
-    if is_word(w, b"power") {
-        return POWER;
-    }
-    if is_word(w, b"train") {
-        return TRAIN;
-    }
-    UNKNOWN
-}
-
-// The kind of a call that may change the path.
-fn change_kind(w: &[u8]) -> u32 {
-    if is_word(w, b"new") {
-        return NEW;
-    }
-    if is_word(w, b"extend") {
-        return EXTEND;
-    }
-    if is_word(w, b"clear") {
-        return CLEAR;
-    }
-    if is_word(w, b"finish") {
-        return FINISH;
-    }
-    if is_word(w, b"recalculate") {
-        return RECALCULATE;
-    }
-    if is_word(w, b"reindex") {
-        return REINDEX;
-    }
-    UNKNOWN
-}
-
-// The kind of a call that reads the path.
-fn reading_kind(w: &[u8]) -> u32 {
-    if is_word(w, b"locate") {
-        return LOCATE;
-    }
-    if is_word(w, b"posted") {
-        return POSTED;
-    }
-    if is_word(w, b"resistance") {
-        return RESISTANCE;
-    }
-    if is_word(w, b"grades") {
-        return GRADES;
-    }
-    if is_word(w, b"curves") {
-        return CURVES;
-    }
-    if is_word(w, b"powers") {
-        return POWERS;
-    }
-    if is_word(w, b"show") {
-        return SHOW;
-    }
-    UNKNOWN
-}
-
 // The kind of the line at `at`.
-pub fn kind_of(text: &[u8], at: usize) -> u32 {
+pub fn kind_of(text: &[u8], at: usize) -> u32
+    ensures { λ r. ⌜ r ≡ spec.kindOf (now (text .entry)) at ⌝ }
+{
     let w = bytes_at(text, at, 0);
     if w.len() == 0 {
         return BLANK;
     }
-    let k = table_kind(w);
-    if k != UNKNOWN {
-        return k;
-    }
-    let k = change_kind(w);
-    if k != UNKNOWN {
-        return k;
-    }
-    reading_kind(w)
+    code_in(
+        w,
+        b"train link elev heading power set when limit new extend clear finish recalculate reindex locate resistance grades curves powers show posted",
+        TRAIN,
+        UNKNOWN,
+        UNKNOWN,
+    )
 }

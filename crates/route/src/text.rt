@@ -78,7 +78,7 @@ pub fn part(text: &[u8], s: Span) -> &[u8]
 // Where the line behind the one at `at` begins; the text's end behind the last one.
 pub fn next_line(text: &[u8], at: usize) -> usize
     requires { ⌜ at < length (now text) ⌝ }
-    ensures { λ r. ⌜ at < r ⌝ }
+    ensures { λ r. ⌜ (r ≡ spec.nextLine (now (text .entry)) at) × (at < r) ⌝ }
 {
     let mut i = at;
     while i < text.len() {
