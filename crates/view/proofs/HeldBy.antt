@@ -21,6 +21,19 @@ use Rattle.view.specs.declared.holders.Held.the-variants.{Limit, Top, Un
 use Rattle.view.specs.Holders.{holds, firstFrom, heldAs, heldBy, partEnd, pieceEnd}
 use Rattle.view.proofs.First.{first-is, first-within}
 
+-- ---- a limit holds v at x where it covers x with the size of v, and nowhere else
+module _ (boards tags : List Float) (x v : Float) (i : ℕ) where
+  pub holds-of : T (covers (recordAt three boards i .0) (recordAt three boards i .2) x) → T (eq (size (recordAt two tags i .0)) (size v)) → T (holds boards tags x v i)
+  unfolding holds
+  holds-of c e = and-i (covers (recordAt three boards i .0) (recordAt three boards i .2) x) (eq (size (recordAt two tags i .0)) (size v)) c e
+
+  pub holds-says : T (holds boards tags x v i) → T (covers (recordAt three boards i .0) (recordAt three boards i .2) x) × T (eq (size (recordAt two tags i .0)) (size v))
+  unfolding holds
+  holds-says h =
+      let c = covers (recordAt three boards i .0) (recordAt three boards i .2) x in
+      let q = eq (size (recordAt two tags i .0)) (size v) in
+      (and-l c q h, and-r c q h)
+
 -- ---- what an answer says of the index j found and of the top speed
 abbrev Said : ℕ → ℕ → Bool → Held → Type 0
 Said n j atTop (Limit i) = (j ≡ i) × (j < n)
@@ -68,13 +81,11 @@ module _ (boards tags : List Float) (n : ℕ) (x v top : Float) where
   -- a limit that is named is one of the n, covers x, and has the size posted
   pub held-limit : (i : ℕ) → heldBy boards tags n x v top ≡ Limit i
       → (i < n) × T (covers (recordAt three boards i .0) (recordAt three boards i .2) x) × T (eq (size (recordAt two tags i .0)) (size v))
-  unfolding holds
   held-limit i e =
       let t = told (Limit i) e in
       let here : T (holds boards tags x v i) = subst (λ (j : ℕ). T (holds boards tags x v j)) (t .0) (first-is (holds boards tags x v) 0 n (omega arith)) in
-      let c = covers (recordAt three boards i .0) (recordAt three boards i .2) x in
-      let q = eq (size (recordAt two tags i .0)) (size v) in
-      (subst (λ (j : ℕ). j < n) (t .0) (t .1), and-l c q here, and-r c q here)
+      let said = holds-says boards tags x v i here in
+      (subst (λ (j : ℕ). j < n) (t .0) (t .1), said .0, said .1)
 
   -- the top speed is named only where it is posted
   pub held-top : heldBy boards tags n x v top ≡ Top → T (eq (size v) (size top))

@@ -1,8 +1,9 @@
--- What holds at an offset: the first limit that covers it, tail counted in, with the size posted there, or the top speed; and up to where. Definitions only.
+-- What holds at an offset: the first limit that covers it, tail counted in, with the size posted there, or the top speed; and up to where. The lowest limit
+-- that covers it. Definitions only.
 use Prim.Native.Nat.{ℕ, zero, suc}
 use mathlib.Core.Bool.{Bool, _&&_, cond}
 use mathlib.Core.List.{List}
-use lib.Dec.{ltb}
+use lib.Dec.{eqb, ltb}
 use lib.Ieee.{Float, lt, eq}
 use Rattle.ieee.specs.Number.{size}
 use Rattle.ieee.specs.Speed.{smaller}
@@ -45,3 +46,18 @@ unfoldable pub pieceEnd : List Float → List Float → ℕ → Float → Float 
 pieceEnd boards tags n x to v (Limit i) = partEnd (recordAt three boards i .1) (recordAt three boards i .2) x to
 pieceEnd boards tags n x to v Top = nextStart boards tags n x to v
 pieceEnd boards tags n x to v Unlisted = nextStart boards tags n x to v
+
+-- limit i covers x, its tail counted in, with a size below that of v
+unfoldable pub below : List Float → List Float → Float → Float → ℕ → Bool
+below boards tags x v i = covers (recordAt three boards i .0) (recordAt three boards i .2) x && lt (size (recordAt two tags i .0)) (size v)
+
+-- the speed of limit r; v for m
+abbrev pub speedOr : List Float → ℕ → Float → ℕ → Float
+speedOr tags m v r = cond (eqb r m) v (recordAt two tags r .0)
+
+-- of n limits the first with the smallest size among those that cover x with a size below that of v; m where none does
+unfoldable pub lowest : List Float → List Float → ℕ → Float → Float → ℕ → ℕ
+unfolding below
+lowest boards tags m x v zero = m
+lowest boards tags m x v (suc k) =
+    cond (below boards tags x (speedOr tags m v (lowest boards tags m x v k)) k) k (lowest boards tags m x v k)

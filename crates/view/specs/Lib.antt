@@ -1,2 +1,3 @@
 -- Definitions of the crate view.
+pub mod History
 pub mod Holders

@@ -6,9 +6,21 @@ use link::speed_set::SetFound;
 use link::speed_set::SpeedSet;
 use link::speed_set::set_for;
 use link::train_params::TrainParams;
-use link::train_params::speed_set_applies;
+use path::link_point::LinkPoint;
 use path::link_point::link_point_at;
+use path_speeds::limits::applying_set;
+use path_speeds::limits::placed;
+use path_speeds::limits::tail_of;
 use si::Length;
+use speed::speed_limit::SpeedLimit;
+ghost use mathlib.Core.Path.{_≡_};
+ghost use mathlib.Core.List.{[], _∷_};
+ghost use Prim.Native.Nat.{min};
+ghost use Rattle.link.specs.declared.speed_set.SetFound.the-variants.{Found};
+ghost use Rattle.link.specs.Train.{lengthOf, topSpeed};
+ghost use Rattle.link.specs.Table.{limitOf};
+ghost use Rattle.path_speeds.specs.Limits.{speedSetsBefore};
+ghost use Rattle.view.specs.History as spec;
 
 // How many limits, link borders and heights there are. A limit has a record of three, start, end and end with its tail, and one of two, speed and link
 // number; a border its offset and the number of the link behind it; a height an offset and the height there.
@@ -26,35 +38,54 @@ pub fn nothing_joined() -> History {
     }
 }
 
-// The set of link i that the train's limits come from; none where its conditions do not hold.
-fn applying(sets: &[u32], codes: &[u32], values: &[f64], i: usize, train: TrainParams) -> SetFound {
-    if 65536 <= i {
-        return SetFound::Missing;
-    }
-    let kind = train.train_type;
-    let SetFound::Found(s) = set_for(sets, i, kind) else {
-        return SetFound::Missing;
-    };
-    let first = s.params_first as usize;
-    let count = s.params_count as usize;
-    if 64 < count {
-        return SetFound::Missing;
-    }
-    if speed_set_applies(codes, values, first, count, train) {
-        return SetFound::Found(s);
-    }
-    SetFound::Missing
+// The smaller of two counts.
+fn fewer(a: usize, b: usize) -> usize
+    ensures { λ r. ⌜ r ≡ min a b ⌝ }
+{
+    if a < b { a } else { b }
 }
 
-// One more of n, where a column of w entries has room for another record.
-fn next(n: usize, room: usize) -> usize {
-    if n < room {
+// How many limits there is room for.
+fn room(boards: &[f64], tags: &[f64]) -> usize
+    ensures { λ r. ⌜ r ≡ spec.room (now (boards .entry)) (now (tags .entry)) ⌝ }
+{
+    fewer(boards.len() / 3, tags.len() / 2)
+}
+
+// A limit behind the first n, where there is room for it; how many there are then.
+fn put_limit(boards: &mut [f64], tags: &mut [f64], n: usize, b: Three, t: Two) -> usize
+    ensures { λ r. ⌜ spec.laidUpTo (now (boards .exit)) (now (tags .exit)) r
+        ≡ spec.withMore (now (boards .entry)) (now (tags .entry)) n (spec.laidFrom b t ∷ []) ⌝ }
+{
+    let most = room(&*boards, &*tags);
+    if n < most {
+        column::floats::put_three(&mut *boards, n, b);
+        column::floats::put_two(&mut *tags, n, t);
         return n + 1;
     }
-    n
+    most
 }
 
-// The limits of a set below the top speed, laid from base on, behind the n that are there; how many there are then.
+// Limit l of the link with this number, laid from base on, behind the first n.
+fn add_limit(
+    l: SpeedLimit,
+    base: Length,
+    tail: Length,
+    number: u32,
+    boards: &mut [f64],
+    tags: &mut [f64],
+    n: usize,
+) -> usize
+    ensures { λ r. ⌜ spec.laidUpTo (now (boards .exit)) (now (tags .exit)) r
+        ≡ spec.withMore (now (boards .entry)) (now (tags .entry)) n (spec.laidOf (base .0) (tail .0) number (limitOf l) ∷ []) ⌝ }
+{
+    let laid = placed(l, base, tail);
+    let board = placed(l, base, Length(0.0));
+    let b = Three(laid.offset_start.0, board.offset_end.0, laid.offset_end.0);
+    put_limit(boards, tags, n, b, Two(laid.speed.0, number as f64))
+}
+
+// The limits of a set below the top speed, laid from base on, behind the first n; how many there are then.
 fn add_limits(
     limits: &[f64],
     s: SpeedSet,
@@ -64,34 +95,74 @@ fn add_limits(
     boards: &mut [f64],
     tags: &mut [f64],
     n: usize,
-) -> usize {
-    let tail = if s.is_head_end == 1 {
-        0.0
-    } else {
-        train.length.0
-    };
+) -> usize
+    ensures { λ r. ⌜ spec.laidUpTo (now (boards .exit)) (now (tags .exit)) r
+        ≡ spec.withMore (now (boards .entry)) (now (tags .entry)) n
+        (spec.setLays (topSpeed train) (base .0) (lengthOf train) number (now (limits .entry)) (Found s)) ⌝ }
+{
+    let tail = tail_of(s, Length(train.length.0));
     let first = s.limits_first as usize;
     let end = first + (s.limits_count as usize);
-    let mut m = n;
+    let mut m = fewer(n, room(&*boards, &*tags));
     let mut i = first;
     while i < end {
         let l = speed_limit_at(limits, i);
         if l.speed.0 < train.speed_max.0 {
-            let to = l.offset_end.0 + base.0;
-            column::floats::put_three(
-                &mut *boards,
-                m,
-                Three(l.offset_start.0 + base.0, to, to + tail),
-            );
-            column::floats::put_two(&mut *tags, m, Two(l.speed.0, number as f64));
-            m = next(m, boards.len() / 3);
+            m = add_limit(l, base, tail, number, &mut *boards, &mut *tags, m);
         }
         i += 1;
     }
     m
 }
 
-// The limits of the links at link points from..to.
+// The set that the limits of link i come from; none where it has more than 64 conditions or they do not hold.
+fn applying(sets: &[u32], codes: &[u32], values: &[f64], i: u32, train: TrainParams) -> SetFound
+    ensures { λ r. ⌜ r ≡ spec.setTaken train (now (sets .entry)) (now (codes .entry)) (now (values .entry)) i ⌝ }
+{
+    let number = i as usize;
+    let kind = train.train_type;
+    let SetFound::Found(s) = set_for(sets, number, kind) else {
+        return SetFound::Missing;
+    };
+    if 64 < s.params_count {
+        return SetFound::Missing;
+    }
+    applying_set(sets, codes, values, number, train)
+}
+
+// The limits of a link point's link, behind the first n.
+fn add_link(
+    p: LinkPoint,
+    sets: &[u32],
+    codes: &[u32],
+    values: &[f64],
+    limits: &[f64],
+    train: TrainParams,
+    boards: &mut [f64],
+    tags: &mut [f64],
+    n: usize,
+) -> usize
+    ensures { λ r. ⌜ spec.laidUpTo (now (boards .exit)) (now (tags .exit)) r
+        ≡ spec.withMore (now (boards .entry)) (now (tags .entry)) n (spec.pointLays train (speedSetsBefore sets codes values limits) p) ⌝ }
+{
+    let number = p.link_idx;
+    let found = applying(sets, codes, values, number, train);
+    let SetFound::Found(s) = found else {
+        return fewer(n, room(&*boards, &*tags));
+    };
+    add_limits(
+        limits,
+        s,
+        Length(p.offset.0),
+        number,
+        train,
+        boards,
+        tags,
+        n,
+    )
+}
+
+// The limits of the links at link points from..to, behind the first n, as many as there is room for; how many there are then.
 pub fn add_links(
     offsets: &[f64],
     numbers: &[u32],
@@ -105,59 +176,35 @@ pub fn add_links(
     boards: &mut [f64],
     tags: &mut [f64],
     n: usize,
-) -> usize {
-    let mut m = n;
+) -> usize
+    ensures { λ r. ⌜ spec.laidUpTo (now (boards .exit)) (now (tags .exit)) r
+        ≡ spec.withMore (now (boards .entry)) (now (tags .entry)) n
+        (spec.layFromTo train (speedSetsBefore sets codes values limits) (now (offsets .entry)) (now (numbers .entry)) from to) ⌝ }
+{
+    let mut m = fewer(n, room(&*boards, &*tags));
     let mut k = from;
     while k < to {
         let p = link_point_at(offsets, numbers, k);
-        let number = p.link_idx;
-        let found = applying(sets, codes, values, number as usize, train);
-        if let SetFound::Found(s) = found {
-            m = add_limits(
-                limits,
-                s,
-                Length(p.offset.0),
-                number,
-                train,
-                &mut *boards,
-                &mut *tags,
-                m,
-            );
-        }
+        m = add_link(
+            p,
+            sets,
+            codes,
+            values,
+            limits,
+            train,
+            &mut *boards,
+            &mut *tags,
+            m,
+        );
         k += 1;
     }
     m
 }
 
-// The borders of the links at link points from..to.
-pub fn add_borders(
-    offsets: &[f64],
-    numbers: &[u32],
-    from: usize,
-    to: usize,
-    borders: &mut [f64],
-    n: usize,
-) -> usize {
-    let mut m = n;
-    let mut k = from;
-    while k < to {
-        let p = link_point_at(offsets, numbers, k);
-        column::floats::put_two(&mut *borders, m, Two(p.offset.0, p.link_idx as f64));
-        m = next(m, borders.len() / 2);
-        k += 1;
+// One more of n, where a column of w entries has room for another record.
+pub fn next(n: usize, room: usize) -> usize {
+    if n < room {
+        return n + 1;
     }
-    m
-}
-
-// The heights at grade records from..to; the last one that is there is at the first of them.
-pub fn add_heights(grades: &[f64], from: usize, to: usize, heights: &mut [f64], n: usize) -> usize {
-    let mut m = if n == 0 { 0 } else { n - 1 };
-    let mut k = from;
-    while k < to {
-        let g = column::floats::three_at(grades, k);
-        column::floats::put_two(&mut *heights, m, Two(g.0, g.2));
-        m = next(m, heights.len() / 2);
-        k += 1;
-    }
-    m
+    n
 }

@@ -1,4 +1,4 @@
-// What holds at an offset, a limit or the top speed, and up to where.
+// What holds at an offset, a limit or the top speed, and up to where; and the lowest limit that covers it.
 use si::Velocity;
 use speed::speed_limit::lesser;
 ghost use mathlib.Core.Path.{_≡_};
@@ -77,4 +77,30 @@ pub fn piece_end(boards: &[f64], tags: &[f64], n: usize, x: f64, to: f64, v: f64
         return lesser(lesser(b.1, to), b.2);
     }
     lesser(b.2, to)
+}
+
+// Whether limit i covers x, its tail counted in, with a size below that of v.
+fn below(boards: &[f64], tags: &[f64], i: usize, x: f64, v: f64) -> bool
+    ensures { λ r. ⌜ r ≡ spec.below (now (boards .entry)) (now (tags .entry)) x v i ⌝ }
+{
+    let b = column::floats::three_at(boards, i);
+    let t = column::floats::two_at(tags, i);
+    ((b.0 <= x) & (x < b.2)) & (ieee::size(t.0) < ieee::size(v))
+}
+
+// Of n limits the first with the smallest size among those that cover x with a size below that of v; n where none does.
+pub fn lowest_below(boards: &[f64], tags: &[f64], n: usize, x: f64, v: f64) -> usize
+    ensures { λ r. ⌜ r ≡ spec.lowest (now (boards .entry)) (now (tags .entry)) n x v n ⌝ }
+{
+    let mut found = n;
+    let mut speed = v;
+    let mut i = 0;
+    while i < n {
+        if below(boards, tags, i, x, speed) {
+            found = i;
+            speed = column::floats::two_at(tags, i).0;
+        }
+        i += 1;
+    }
+    found
 }

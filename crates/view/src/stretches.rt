@@ -47,7 +47,8 @@ fn row(x: f64, to: f64, v: f64) {
     say(b"  ");
 }
 
-// The rows of a stretch from x up to `to` with speed v, one for each piece that another limit, or its tail, holds.
+// The rows of a stretch from x up to `to` with speed v, one for each piece that another limit, or its tail, holds; at most 10,000, and a word where
+// there are more.
 fn pieces(boards: &[f64], tags: &[f64], n: usize, from: f64, to: f64, v: f64, top: Velocity) {
     let mut x = from;
     let mut left: usize = 10000;
@@ -62,6 +63,9 @@ fn pieces(boards: &[f64], tags: &[f64], n: usize, from: f64, to: f64, v: f64, to
         say(b"\n");
         x = next;
         left -= 1;
+    }
+    if x < to {
+        say(b"        .. and more\n");
     }
 }
 

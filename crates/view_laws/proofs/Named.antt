@@ -5,10 +5,8 @@ use mathlib.Core.List.{List}
 use lib.Dec.{T}
 use lib.Ieee as Ieee
 use lib.Ieee.{Float}
-use lib.Ieee.Fits.{and-i}
 use Rattle.ieee.specs.Number.{size}
 use Rattle.ieee.proofs.Order.{eq-sym}
-use Rattle.speed_laws.specs.Words.{covers}
 use Rattle.link.specs.Train.{topSpeed}
 use Rattle.link.specs.Table as table
 use Rattle.path.specs.Records.{pathOf}
@@ -16,15 +14,13 @@ use Rattle.book.specs.Claims.{postedAt, coversAt}
 use Rattle.book.specs.Demand.{ranFromNew}
 use Rattle.book.proofs.LimitsEnd.{exact}
 use Rattle.view.specs.Holders.{holds}
-use Rattle.view.proofs.HeldBy.{held-some}
+use Rattle.view.proofs.HeldBy.{holds-of, held-some}
 use Rattle.view_laws.specs.Named.{Tells, AlwaysNamed}
 
 -- a limit that covers x with the size of u holds it, by the record that tells of it
 told-holds : (boards tags : List Float) (k : ℕ) (l : table.Limit) (x u : Float)
     → Tells boards tags k l → T (coversAt l x) → T (Ieee.eq (size u) (size (l .value))) → T (holds boards tags x u k)
-unfolding holds
-told-holds boards tags k l x u t c e =
-    rw (t .start, t .end, t .value) (and-i (covers (l .start) (l .end) x) (Ieee.eq (size (l .value)) (size u)) c (eq-sym (size u) (size (l .value)) e))
+told-holds boards tags k l x u t c e = holds-of boards tags x u k (rw (t .start, t .end) c) (rw (t .value) (eq-sym (size u) (size (l .value)) e))
 
 pub always-named : AlwaysNamed
 always-named train columns calls f64 e boards tags n told x h unlisted =

@@ -6,10 +6,10 @@ use Rattle.view.proofs.picture.heights.Statement.{statement}
 use Rattle.view.proofs.picture.heights.Tie as tie
 
 abbrev Inv-loop : tie.InvT-loop
-Inv-loop f col n i₀ t7 i = Unit {0}
+Inv-loop f col n goes-on₀ i₀ t8 goes-on i = Unit {0}
 
 abbrev μ-loop : tie.MeasureT-loop
-μ-loop f col n i₀ t7 i = n - i
+μ-loop f col n goes-on₀ i₀ t8 goes-on i = n - i
 
 slice-aggregate-say : tie.Need-slice-aggregate-say Inv-loop μ-loop
 slice-aggregate-say c = search needs
@@ -23,14 +23,8 @@ loop-holds c = tt
 two-at-requires : tie.Need-two-at-requires Inv-loop μ-loop
 two-at-requires c κs = search needs
 
-across-requires : tie.Need-across-requires Inv-loop μ-loop
-across-requires c κs = search needs
-
-level-requires : tie.Need-level-requires Inv-loop μ-loop
-level-requires c κs = search needs
-
-point-requires : tie.Need-point-requires Inv-loop μ-loop
-point-requires c κs = search needs
+vertex-requires : tie.Need-vertex-requires Inv-loop μ-loop
+vertex-requires c κs = search needs
 
 add-i : tie.Need-add-i Inv-loop μ-loop
 add-i c = omega arith
@@ -60,9 +54,7 @@ heights-spec =
     say-requires
     loop-holds
     two-at-requires
-    across-requires
-    level-requires
-    point-requires
+    vertex-requires
     add-i
     loop-less
     loop-again

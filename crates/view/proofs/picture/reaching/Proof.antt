@@ -11,14 +11,11 @@ Inv-loop f col n low₀ high₀ i₀ low high i = Unit {0}
 abbrev μ-loop : tie.MeasureT-loop
 μ-loop f col n low₀ high₀ i₀ low high i = n - i
 
-two-at-requires : tie.Need-two-at-requires Inv-loop μ-loop
-two-at-requires c κs = search needs
-
 loop-holds : tie.Need-loop-holds Inv-loop μ-loop
 loop-holds c = tt
 
-two-at-requires-2 : tie.Need-two-at-requires-2 Inv-loop μ-loop
-two-at-requires-2 c κs = search needs
+two-at-requires : tie.Need-two-at-requires Inv-loop μ-loop
+two-at-requires c κs = search needs
 
 lesser-requires : tie.Need-lesser-requires Inv-loop μ-loop
 lesser-requires c κs = search needs
@@ -44,9 +41,8 @@ reaching-spec =
     (tie.spec
     Inv-loop
     μ-loop
-    two-at-requires
     loop-holds
-    two-at-requires-2
+    two-at-requires
     lesser-requires
     larger-requires
     add-i

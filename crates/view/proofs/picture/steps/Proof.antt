@@ -6,10 +6,10 @@ use Rattle.view.proofs.picture.steps.Statement.{statement}
 use Rattle.view.proofs.picture.steps.Tie as tie
 
 abbrev Inv-loop : tie.InvT-loop
-Inv-loop f speeds n y₀ i₀ t9 y i = Unit {0}
+Inv-loop f speeds n i₀ t8 t9 t10 t11 i = Unit {0}
 
 abbrev μ-loop : tie.MeasureT-loop
-μ-loop f speeds n y₀ i₀ t9 y i = n - i
+μ-loop f speeds n i₀ t8 t9 t10 t11 i = n - i
 
 slice-aggregate-say : tie.Need-slice-aggregate-say Inv-loop μ-loop
 slice-aggregate-say c = search needs
@@ -17,29 +17,41 @@ slice-aggregate-say c = search needs
 say-requires : tie.Need-say-requires Inv-loop μ-loop
 say-requires c κs = search needs
 
-two-at-requires : tie.Need-two-at-requires Inv-loop μ-loop
-two-at-requires c κs = search needs
-
-up-requires : tie.Need-up-requires Inv-loop μ-loop
-up-requires c κs = search needs
-
-loop-holds : tie.Need-loop-holds Inv-loop μ-loop
-loop-holds c = tt
-
-two-at-requires-2 : tie.Need-two-at-requires-2 Inv-loop μ-loop
-two-at-requires-2 c κs = search needs
+slice-aggregate-point : tie.Need-slice-aggregate-point Inv-loop μ-loop
+slice-aggregate-point c = search needs
 
 across-requires : tie.Need-across-requires Inv-loop μ-loop
 across-requires c κs = search needs
 
+beginning-requires : tie.Need-beginning-requires Inv-loop μ-loop
+beginning-requires c κs = search needs
+
 point-requires : tie.Need-point-requires Inv-loop μ-loop
 point-requires c κs = search needs
 
-up-requires-2 : tie.Need-up-requires-2 Inv-loop μ-loop
-up-requires-2 c κs = search needs
+loop-holds : tie.Need-loop-holds Inv-loop μ-loop
+loop-holds c = tt
 
-point-requires-2 : tie.Need-point-requires-2 Inv-loop μ-loop
-point-requires-2 c κs = search needs
+two-at-requires : tie.Need-two-at-requires Inv-loop μ-loop
+two-at-requires c κs = search needs
+
+slice-aggregate-toward : tie.Need-slice-aggregate-toward Inv-loop μ-loop
+slice-aggregate-toward c = search needs
+
+across-requires-2 : tie.Need-across-requires-2 Inv-loop μ-loop
+across-requires-2 c κs = search needs
+
+toward-requires : tie.Need-toward-requires Inv-loop μ-loop
+toward-requires c κs = search needs
+
+slice-aggregate-toward-2 : tie.Need-slice-aggregate-toward-2 Inv-loop μ-loop
+slice-aggregate-toward-2 c = search needs
+
+up-requires : tie.Need-up-requires Inv-loop μ-loop
+up-requires c κs = search needs
+
+toward-requires-2 : tie.Need-toward-requires-2 Inv-loop μ-loop
+toward-requires-2 c κs = search needs
 
 add-i : tie.Need-add-i Inv-loop μ-loop
 add-i c = omega arith
@@ -50,11 +62,14 @@ loop-less c = omega arith
 loop-again : tie.Need-loop-again Inv-loop μ-loop
 loop-again c = tt
 
-across-requires-2 : tie.Need-across-requires-2 Inv-loop μ-loop
-across-requires-2 c κs = search needs
+slice-aggregate-toward-3 : tie.Need-slice-aggregate-toward-3 Inv-loop μ-loop
+slice-aggregate-toward-3 c = search needs
 
-point-requires-3 : tie.Need-point-requires-3 Inv-loop μ-loop
-point-requires-3 c κs = search needs
+across-requires-3 : tie.Need-across-requires-3 Inv-loop μ-loop
+across-requires-3 c κs = search needs
+
+toward-requires-3 : tie.Need-toward-requires-3 Inv-loop μ-loop
+toward-requires-3 c κs = search needs
 
 slice-aggregate-say-2 : tie.Need-slice-aggregate-say-2 Inv-loop μ-loop
 slice-aggregate-say-2 c = search needs
@@ -73,19 +88,24 @@ steps-spec =
     μ-loop
     slice-aggregate-say
     say-requires
-    two-at-requires
-    up-requires
-    loop-holds
-    two-at-requires-2
+    slice-aggregate-point
     across-requires
+    beginning-requires
     point-requires
-    up-requires-2
-    point-requires-2
+    loop-holds
+    two-at-requires
+    slice-aggregate-toward
+    across-requires-2
+    toward-requires
+    slice-aggregate-toward-2
+    up-requires
+    toward-requires-2
     add-i
     loop-less
     loop-again
-    across-requires-2
-    point-requires-3
+    slice-aggregate-toward-3
+    across-requires-3
+    toward-requires-3
     slice-aggregate-say-2
     say-requires-2
     returns)

@@ -5,10 +5,10 @@ use Rattle.view.proofs.stretches.pieces.Statement.{statement}
 use Rattle.view.proofs.stretches.pieces.Tie as tie
 
 abbrev Inv-loop : tie.InvT-loop
-Inv-loop boards tags n from to v top x₀ left₀ t12 x left = Unit {0}
+Inv-loop boards tags n from to v top x₀ left₀ t12 t13 x left = Unit {0}
 
 abbrev μ-loop : tie.MeasureT-loop
-μ-loop boards tags n from to v top x₀ left₀ t12 x left = left
+μ-loop boards tags n from to v top x₀ left₀ t12 t13 x left = left
 
 loop-holds : tie.Need-loop-holds Inv-loop μ-loop
 loop-holds c = tt
@@ -43,8 +43,17 @@ loop-less c = omega arith
 loop-again : tie.Need-loop-again Inv-loop μ-loop
 loop-again c = tt
 
+slice-aggregate-say-2 : tie.Need-slice-aggregate-say-2 Inv-loop μ-loop
+slice-aggregate-say-2 c = search needs
+
+say-requires-2 : tie.Need-say-requires-2 Inv-loop μ-loop
+say-requires-2 c κs = search needs
+
 returns-2 : tie.Need-returns-2 Inv-loop μ-loop
 returns-2 c = search needs
+
+returns-3 : tie.Need-returns-3 Inv-loop μ-loop
+returns-3 c = search needs
 
 pub pieces-spec : {M : Type 1} → statement M
 pieces-spec =
@@ -63,4 +72,7 @@ pieces-spec =
     sub-left
     loop-less
     loop-again
-    returns-2)
+    slice-aggregate-say-2
+    say-requires-2
+    returns-2
+    returns-3)

@@ -4,8 +4,8 @@ use mathlib.Core.Path.{_≡_}
 use native.Mathlib.Omega.{arith}
 use lib.ListN.{length}
 use borrow.Author.Needs.{needs}
-use Rattle.view.proofs.history.add_borders.Statement.{statement}
-use Rattle.view.proofs.history.add_borders.Tie as tie
+use Rattle.view.proofs.profile.add_borders.Statement.{statement}
+use Rattle.view.proofs.profile.add_borders.Tie as tie
 
 abbrev Inv-loop : tie.InvT-loop
 Inv-loop offsets numbers from to borders₀ n m₀ k₀ borders m k = length borders ≡ length borders₀

@@ -1,0 +1,34 @@
+-- `ten_down`: one power a turn.
+use native.Mathlib.Omega.{arith}
+use borrow.Author.Needs.{needs}
+use Rattle.view.proofs.axes.ten_down.Statement.{statement}
+use Rattle.view.proofs.axes.ten_down.Tie as tie
+
+abbrev Inv-loop : tie.InvT-loop
+Inv-loop x power₀ value₀ power value = Unit {0}
+
+abbrev μ-loop : tie.MeasureT-loop
+μ-loop x power₀ value₀ power value = power
+
+loop-holds : tie.Need-loop-holds Inv-loop μ-loop
+loop-holds c = tt
+
+returns : tie.Need-returns Inv-loop μ-loop
+returns c = search needs
+
+sub-power : tie.Need-sub-power Inv-loop μ-loop
+sub-power c = omega arith
+
+loop-less : tie.Need-loop-less Inv-loop μ-loop
+loop-less c = omega arith
+
+loop-again : tie.Need-loop-again Inv-loop μ-loop
+loop-again c = tt
+
+returns-2 : tie.Need-returns-2 Inv-loop μ-loop
+returns-2 c = search needs
+
+pub ten-down-spec : {M : Type 1} → statement M
+ten-down-spec =
+    tie.close
+    (tie.spec Inv-loop μ-loop loop-holds returns sub-power loop-less loop-again returns-2)
