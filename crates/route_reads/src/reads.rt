@@ -2,6 +2,7 @@
 use link::train_params::TrainParams;
 use lookup::lin_search_hint::Dir;
 use messages::outcomes::outcome;
+use messages::refusals::reading_refused;
 use path::path_tpc::Answer;
 use path::path_tpc::PathTpc;
 use path_link_records::link_records::link_range;
@@ -15,10 +16,12 @@ use route::fields::float_at;
 use route::kinds::CURVES;
 use route::kinds::LOCATE;
 use route::kinds::POSTED;
-use show::plain;
-use show::real;
-use show::real_in;
-use show::say;
+use route::kinds::RESISTANCE;
+use show::To;
+use show::put;
+use show::put_count;
+use show::put_real;
+use show::put_real_in;
 use si::Force;
 use si::Length;
 use train::set_link_and_offset::with_link_and_offset;
@@ -66,6 +69,7 @@ fn direction(code: u32) -> Dir {
 
 // Where the train stands.
 fn locate(
+    out: i32,
     state: TrainState,
     p: PathTpc,
     offsets: &[f64],
@@ -75,7 +79,7 @@ fn locate(
     speeds: &[f64],
     powers: &[f64],
     districts: &[u32],
-) {
+) -> Answer {
     let r = with_link_and_offset(
         state,
         p,
@@ -88,20 +92,22 @@ fn locate(
         districts,
     );
     let answer = r.answer;
-    if outcome(answer) {
+    if outcome(out, answer) {
         let t = r.state;
-        say(b": front in link ");
-        plain(t.link_idx_front as usize);
-        say(b" at ");
-        real(t.offset_in_link.0);
-        say(b", back in link ");
-        plain(t.link_idx_back as usize);
-        say(b"\n");
+        put(out, b": front in link ");
+        put_count(out, t.link_idx_front as usize);
+        put(out, b" at ");
+        put_real(out, t.offset_in_link.0);
+        put(out, b", back in link ");
+        put_count(out, t.link_idx_back as usize);
+        put(out, b"\n");
     }
+    answer
 }
 
 // The speed posted at an offset.
 fn posted(
+    out: i32,
     x: f64,
     p: PathTpc,
     offsets: &[f64],
@@ -111,7 +117,7 @@ fn posted(
     speeds: &[f64],
     powers: &[f64],
     districts: &[u32],
-) {
+) -> Answer {
     let r = posted_speed(
         p,
         Length(x),
@@ -123,46 +129,49 @@ fn posted(
         powers,
         districts,
     );
-    if outcome(r.answer) {
-        say(b": ");
-        real(r.speed.0);
-        say(b"\n");
+    let answer = r.answer;
+    if outcome(out, answer) {
+        put(out, b": ");
+        put_real(out, r.speed.0);
+        put(out, b"\n");
     }
+    answer
 }
 
 // The records from..to of a column: offset, thousandths, value.
-fn records(col: &[f64], from: usize, to: usize) {
+fn records(out: i32, col: &[f64], from: usize, to: usize) {
     let mut i = from;
     while i < to {
         let g = column::floats::three_at(col, i);
-        real_in(g.0, 12);
-        real_in(g.1 * 1000.0, 12);
-        say(b" per mille");
-        real_in(g.2, 12);
-        say(b"\n");
+        put_real_in(out, g.0, 12);
+        put_real_in(out, g.1 * 1000.0, 12);
+        put(out, b" per mille");
+        put_real_in(out, g.2, 12);
+        put(out, b"\n");
         i += 1;
     }
 }
 
 // The power limits of a path: from, to, watts, district.
-pub fn list_powers(powers: &[f64], districts: &[u32], n: usize) {
-    plain(n);
-    say(b" power limits\n");
+pub fn list_powers(out: i32, powers: &[f64], districts: &[u32], n: usize) {
+    put_count(out, n);
+    put(out, b" power limits\n");
     let mut i = 0;
     while i < n {
         let w = column::floats::three_at(powers, i);
-        real_in(w.0, 12);
-        real_in(w.1, 12);
-        real_in(w.2, 14);
-        say(b" W  district ");
-        plain(column::words::get(districts, i) as usize);
-        say(b"\n");
+        put_real_in(out, w.0, 12);
+        put_real_in(out, w.1, 12);
+        put_real_in(out, w.2, 14);
+        put(out, b" W  district ");
+        put_count(out, column::words::get(districts, i) as usize);
+        put(out, b"\n");
         i += 1;
     }
 }
 
 // The grade or curve records of link k.
 fn list_records(
+    out: i32,
     k: usize,
     wants_curves: bool,
     p: PathTpc,
@@ -173,7 +182,7 @@ fn list_records(
     speeds: &[f64],
     powers: &[f64],
     districts: &[u32],
-) {
+) -> Answer {
     let r = link_range(
         p,
         k,
@@ -188,16 +197,17 @@ fn list_records(
     );
     let answer = r.answer;
     let range = r.range;
-    if outcome(answer) {
-        say(b"\n");
+    if outcome(out, answer) {
+        put(out, b"\n");
         let first = range.from / 3;
         let end = first + range.len / 3;
         if wants_curves {
-            records(curves, first, end);
+            records(out, curves, first, end);
         } else {
-            records(grades, first, end);
+            records(out, grades, first, end);
         }
     }
+    answer
 }
 
 // A strap that stands in a list: a new one where there is none yet.
@@ -216,6 +226,7 @@ fn standing(made: bool, strap: Strap, col: &[f64], n: usize, state: TrainState) 
 
 // The resistance of one list: its answer printed; the strap afterwards.
 fn one_resistance(
+    out: i32,
     name: &[u8],
     made: bool,
     strap: Strap,
@@ -224,59 +235,89 @@ fn one_resistance(
     state: TrainState,
     dir: Dir,
 ) -> StrapAnswer {
-    say(name);
+    put(out, name);
     let from = standing(made, strap, col, n, state);
     let first = from.answer;
     let placed = from.strap;
     if first.number != 0 {
-        outcome(first);
+        outcome(out, first);
         return from;
     }
     let r = resistance::strap::calc_res(placed, col, n, state, dir);
     let answer = r.answer;
     let strap = r.strap;
-    if outcome(answer) {
-        say(b", ");
-        real(r.res.0);
-        say(b" N\n");
+    if outcome(out, answer) {
+        put(out, b", ");
+        put_real(out, r.res.0);
+        put(out, b" N\n");
     }
     StrapAnswer { answer, strap }
 }
 
-// Grade and curve resistance; a refused call leaves the straps as they were.
-pub fn resistance_line(
-    text: &[u8],
-    at: usize,
-    train: TrainParams,
-    s: Straps,
-    p: PathTpc,
-    grades: &[f64],
-    curves: &[f64],
-) -> Straps {
-    let dir = direction(direction_code(bytes_at(text, at, 1)));
-    let state = position(
-        train,
-        float_at(text, at, 2),
-        float_at(text, at, 3),
-        float_at(text, at, 4),
-    );
-    let grade = s.grade;
-    let curve = s.curve;
-    let g = one_resistance(b"grade ", s.made, grade, grades, p.grade_count, state, dir);
-    say(b"  ");
-    let c = one_resistance(b"curve ", s.made, curve, curves, p.curve_count, state, dir);
+// The straps behind a line, and whether its call was done.
+pub struct Stood {
+    pub straps: Straps,
+    pub done: bool,
+}
+
+// The straps behind both calls, done or refused.
+fn straps_after(s: Straps, g: StrapAnswer, c: StrapAnswer) -> Stood {
     let of_grade = g.answer;
     let of_curve = c.answer;
     if (of_grade.number == 0) & (of_curve.number == 0) {
         let grade = g.strap;
         let curve = c.strap;
-        return Straps {
-            made: true,
-            grade,
-            curve,
+        return Stood {
+            straps: Straps {
+                made: true,
+                grade,
+                curve,
+            },
+            done: true,
         };
     }
-    s
+    Stood {
+        straps: s,
+        done: false,
+    }
+}
+
+// Grade and curve resistance; a refused call leaves the straps as they were.
+pub fn resistance_line(
+    to: To,
+    name: &[u8],
+    line: usize,
+    text: &[u8],
+    at: usize,
+    train: TrainParams,
+    s: Straps,
+    p: PathTpc,
+    offsets: &[f64],
+    grades: &[f64],
+    curves: &[f64],
+) -> Stood {
+    let dir = direction(direction_code(bytes_at(text, at, 1)));
+    let x = float_at(text, at, 2);
+    let state = position(train, x, float_at(text, at, 3), float_at(text, at, 4));
+    let grade = s.grade;
+    let curve = s.curve;
+    let out = to.out;
+    let n = p.grade_count;
+    let g = one_resistance(out, b"grade ", s.made, grade, grades, n, state, dir);
+    put(out, b"  ");
+    let n = p.curve_count;
+    let c = one_resistance(out, b"curve ", s.made, curve, curves, n, state, dir);
+    let of_grade = g.answer;
+    let of_curve = c.answer;
+    let refused = if of_grade.number != 0 {
+        of_grade
+    } else {
+        of_curve
+    };
+    if refused.number != 0 {
+        reading_refused(to.err, name, line, RESISTANCE, refused, x, p, offsets);
+    }
+    straps_after(s, g, c)
 }
 
 // The straps behind a drop of so many grades and curves; none where an index would fall below 0.
@@ -300,7 +341,8 @@ pub fn fixed(s: Straps, grades: usize, curves: usize) -> Straps {
 }
 
 // The call of the line at `at`: locate, posted, grades or curves.
-pub fn read_line(
+fn called(
+    out: i32,
     text: &[u8],
     at: usize,
     kind: u32,
@@ -313,9 +355,10 @@ pub fn read_line(
     speeds: &[f64],
     powers: &[f64],
     districts: &[u32],
-) {
+) -> Answer {
     if kind == LOCATE {
-        locate(
+        return locate(
+            out,
             position(train, float_at(text, at, 1), float_at(text, at, 2), 0.0),
             p,
             offsets,
@@ -326,10 +369,10 @@ pub fn read_line(
             powers,
             districts,
         );
-        return;
     }
     if kind == POSTED {
-        posted(
+        return posted(
+            out,
             float_at(text, at, 1),
             p,
             offsets,
@@ -340,9 +383,9 @@ pub fn read_line(
             powers,
             districts,
         );
-        return;
     }
     list_records(
+        out,
         count_at(text, at, 1) as usize,
         kind == CURVES,
         p,
@@ -353,5 +396,46 @@ pub fn read_line(
         speeds,
         powers,
         districts,
+    )
+}
+
+// The same, a refusal told with its reason; whether it is done.
+pub fn read_line(
+    to: To,
+    name: &[u8],
+    line: usize,
+    text: &[u8],
+    at: usize,
+    kind: u32,
+    train: TrainParams,
+    p: PathTpc,
+    offsets: &[f64],
+    numbers: &[u32],
+    grades: &[f64],
+    curves: &[f64],
+    speeds: &[f64],
+    powers: &[f64],
+    districts: &[u32],
+) -> bool {
+    let answer = called(
+        to.out,
+        text,
+        at,
+        kind,
+        train,
+        p,
+        offsets,
+        numbers,
+        grades,
+        curves,
+        speeds,
+        powers,
+        districts,
     );
+    if answer.number == 0 {
+        return true;
+    }
+    let x = float_at(text, at, 1);
+    reading_refused(to.err, name, line, kind, answer, x, p, offsets);
+    false
 }

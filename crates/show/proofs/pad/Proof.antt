@@ -5,19 +5,19 @@ use Rattle.show.proofs.pad.Statement.{statement}
 use Rattle.show.proofs.pad.Tie as tie
 
 abbrev Inv-loop : tie.InvT-loop
-Inv-loop n width i₀ t4 i = Unit {0}
+Inv-loop fd n width i₀ t4 i = Unit {0}
 
 abbrev μ-loop : tie.MeasureT-loop
-μ-loop n width i₀ t4 i = width - i
+μ-loop fd n width i₀ t4 i = width - i
 
 loop-holds : tie.Need-loop-holds Inv-loop μ-loop
 loop-holds c = tt
 
-slice-aggregate-say : tie.Need-slice-aggregate-say Inv-loop μ-loop
-slice-aggregate-say c = search needs
+slice-aggregate-put : tie.Need-slice-aggregate-put Inv-loop μ-loop
+slice-aggregate-put c = search needs
 
-say-requires : tie.Need-say-requires Inv-loop μ-loop
-say-requires c κs = search needs
+put-requires : tie.Need-put-requires Inv-loop μ-loop
+put-requires c κs = search needs
 
 add-i : tie.Need-add-i Inv-loop μ-loop
 add-i c = search needs
@@ -38,8 +38,8 @@ pad-spec =
     Inv-loop
     μ-loop
     loop-holds
-    slice-aggregate-say
-    say-requires
+    slice-aggregate-put
+    put-requires
     add-i
     loop-less
     loop-again

@@ -5,10 +5,10 @@ use Rattle.route_reads.proofs.reads.records.Statement.{statement}
 use Rattle.route_reads.proofs.reads.records.Tie as tie
 
 abbrev Inv-loop : tie.InvT-loop
-Inv-loop col from to i₀ t6 t7 i = Unit {0}
+Inv-loop out col from to i₀ t7 t8 i = Unit {0}
 
 abbrev μ-loop : tie.MeasureT-loop
-μ-loop col from to i₀ t6 t7 i = to - i
+μ-loop out col from to i₀ t7 t8 i = to - i
 
 loop-holds : tie.Need-loop-holds Inv-loop μ-loop
 loop-holds c = tt
@@ -16,26 +16,26 @@ loop-holds c = tt
 three-at-requires : tie.Need-three-at-requires Inv-loop μ-loop
 three-at-requires c κs = search needs
 
-real-in-requires : tie.Need-real-in-requires Inv-loop μ-loop
-real-in-requires c κs = search needs
+put-real-in-requires : tie.Need-put-real-in-requires Inv-loop μ-loop
+put-real-in-requires c κs = search needs
 
-real-in-requires-2 : tie.Need-real-in-requires-2 Inv-loop μ-loop
-real-in-requires-2 c κs = search needs
+put-real-in-requires-2 : tie.Need-put-real-in-requires-2 Inv-loop μ-loop
+put-real-in-requires-2 c κs = search needs
 
-slice-aggregate-say : tie.Need-slice-aggregate-say Inv-loop μ-loop
-slice-aggregate-say c = search needs
+slice-aggregate-put : tie.Need-slice-aggregate-put Inv-loop μ-loop
+slice-aggregate-put c = search needs
 
-say-requires : tie.Need-say-requires Inv-loop μ-loop
-say-requires c κs = search needs
+put-requires : tie.Need-put-requires Inv-loop μ-loop
+put-requires c κs = search needs
 
-real-in-requires-3 : tie.Need-real-in-requires-3 Inv-loop μ-loop
-real-in-requires-3 c κs = search needs
+put-real-in-requires-3 : tie.Need-put-real-in-requires-3 Inv-loop μ-loop
+put-real-in-requires-3 c κs = search needs
 
-slice-aggregate-say-2 : tie.Need-slice-aggregate-say-2 Inv-loop μ-loop
-slice-aggregate-say-2 c = search needs
+slice-aggregate-put-2 : tie.Need-slice-aggregate-put-2 Inv-loop μ-loop
+slice-aggregate-put-2 c = search needs
 
-say-requires-2 : tie.Need-say-requires-2 Inv-loop μ-loop
-say-requires-2 c κs = search needs
+put-requires-2 : tie.Need-put-requires-2 Inv-loop μ-loop
+put-requires-2 c κs = search needs
 
 add-i : tie.Need-add-i Inv-loop μ-loop
 add-i c = search needs
@@ -57,13 +57,13 @@ records-spec =
     μ-loop
     loop-holds
     three-at-requires
-    real-in-requires
-    real-in-requires-2
-    slice-aggregate-say
-    say-requires
-    real-in-requires-3
-    slice-aggregate-say-2
-    say-requires-2
+    put-real-in-requires
+    put-real-in-requires-2
+    slice-aggregate-put
+    put-requires
+    put-real-in-requires-3
+    slice-aggregate-put-2
+    put-requires-2
     add-i
     loop-less
     loop-again

@@ -1,19 +1,19 @@
--- `real_in`: what is cut lies between the two ends that the code tests.
+-- `put_real_in`: what is cut lies between the two ends that the code tests.
 use borrow.Author.Needs.{needs}
 use mathlib.Core.Path.{sym, subst}
 use lib.Dec.{T}
 use lib.Ieee.{ofBits, neg}
-use Rattle.show.proofs.real_in.Statement.{statement}
-use Rattle.show.proofs.real_in.Tie as tie
+use Rattle.show.proofs.put_real_in.Statement.{statement}
+use Rattle.show.proofs.put_real_in.Tie as tie
 
 pad-requires : tie.Need-pad-requires
 pad-requires c κs = search needs
 
-slice-aggregate-say : tie.Need-slice-aggregate-say
-slice-aggregate-say c = search needs
+slice-aggregate-put : tie.Need-slice-aggregate-put
+slice-aggregate-put c = search needs
 
-say-requires : tie.Need-say-requires
-say-requires c κs = search needs
+put-requires : tie.Need-put-requires
+put-requires c κs = search needs
 
 returns : tie.Need-returns
 returns c = search needs
@@ -37,28 +37,28 @@ returns-2 c = search needs
 is-negative-requires-2 : tie.Need-is-negative-requires-2
 is-negative-requires-2 c κs = search needs
 
-slice-aggregate-say-2 : tie.Need-slice-aggregate-say-2
-slice-aggregate-say-2 c = search needs
+slice-aggregate-put-2 : tie.Need-slice-aggregate-put-2
+slice-aggregate-put-2 c = search needs
 
-say-requires-2 : tie.Need-say-requires-2
-say-requires-2 c κs = search needs
+put-requires-2 : tie.Need-put-requires-2
+put-requires-2 c κs = search needs
 
-slice-aggregate-say-3 : tie.Need-slice-aggregate-say-3
-slice-aggregate-say-3 c = search needs
+slice-aggregate-put-3 : tie.Need-slice-aggregate-put-3
+slice-aggregate-put-3 c = search needs
 
-say-requires-3 : tie.Need-say-requires-3
-say-requires-3 c κs = search needs
+put-requires-3 : tie.Need-put-requires-3
+put-requires-3 c κs = search needs
 
 returns-3 : tie.Need-returns-3
 returns-3 c = search needs
 
-pub real-in-spec : {M : Type 1} → statement M
-real-in-spec =
+pub put-real-in-spec : {M : Type 1} → statement M
+put-real-in-spec =
     tie.close
     (tie.spec
     pad-requires
-    slice-aggregate-say
-    say-requires
+    slice-aggregate-put
+    put-requires
     returns
     size-requires
     is-negative-requires
@@ -66,8 +66,8 @@ real-in-spec =
     written-requires
     returns-2
     is-negative-requires-2
-    slice-aggregate-say-2
-    say-requires-2
-    slice-aggregate-say-3
-    say-requires-3
+    slice-aggregate-put-2
+    put-requires-2
+    slice-aggregate-put-3
+    put-requires-3
     returns-3)

@@ -1,0 +1,4 @@
+-- Laws of the crate messages.
+pub mod SetPlaces
+pub mod ClauseSteps
+pub mod NoClause

@@ -1,0 +1,2 @@
+-- Definitions of the crate messages.
+pub mod Clauses
