@@ -1,7 +1,10 @@
 // The columns that a run needs: the link table, the path, and what was joined.
+use crate::progress::Clock;
+use crate::session::Counts;
 use crate::session::run;
 use route::fill::fill_table;
 use route::judge::Seen;
+use show::To;
 ghost use Prim.Native.Nat.{_≤_};
 
 // The columns of a path at the bounds of R12.
@@ -20,13 +23,16 @@ pub type Powers = [f64; 3072];
 pub type Districts = [u32; 1024];
 
 // The columns of what was joined.
-pub type Boards = [f64; 12288];
+pub type Boards = [f64; 98304];
 
-pub type Tags = [f64; 8192];
+pub type Tags = [f64; 65536];
 
 pub type Borders = [f64; 4096];
 
 pub type Heights = [f64; 65536];
+
+// The speed points of the original in its own run.
+pub type Original = [f64; 16384];
 
 // The first n entries of a column, all where it has fewer.
 pub fn cut_numbers(col: &[u32], n: usize) -> &[u32] {
@@ -55,9 +61,11 @@ fn last_link(n: usize) -> usize
 
 // A run on a path with columns at the bounds of R12.
 fn with_path(
+    to: To,
+    clock: Clock,
+    name: &[u8],
     text: &[u8],
     seen: Seen,
-    svg: bool,
     links: &[u32],
     lengths: &[f64],
     sets: &[u32],
@@ -68,7 +76,7 @@ fn with_path(
     values: &[f64],
     link_powers: &[f64],
     link_districts: &[u32],
-) {
+) -> Counts {
     let mut offsets = [0.0f64; 1025];
     let mut numbers = [0u32; 4100];
     let mut grades = [0.0f64; 49152];
@@ -76,14 +84,17 @@ fn with_path(
     let mut speeds = [0.0f64; 8192];
     let mut powers = [0.0f64; 3072];
     let mut districts = [0u32; 1024];
-    let mut boards = [0.0f64; 12288];
-    let mut tags = [0.0f64; 8192];
+    let mut boards = [0.0f64; 98304];
+    let mut tags = [0.0f64; 65536];
     let mut borders = [0.0f64; 4096];
     let mut heights = [0.0f64; 65536];
+    let mut original = [0.0f64; 16384];
     run(
+        to,
+        clock,
+        name,
         text,
         seen,
-        svg,
         &mut offsets,
         &mut numbers,
         &mut grades,
@@ -105,14 +116,17 @@ fn with_path(
         &mut tags,
         &mut borders,
         &mut heights,
-    );
+        &mut original,
+    )
 }
 
 // A run on a table whose links are cut to those of the route.
 fn with_links(
+    to: To,
+    clock: Clock,
+    name: &[u8],
     text: &[u8],
     seen: Seen,
-    svg: bool,
     links: &mut [u32; 11275],
     lengths: &mut [f64; 1025],
     sets: &mut [u32; 49200],
@@ -123,7 +137,7 @@ fn with_links(
     values: &mut [f64; 8192],
     link_powers: &mut [f64; 3072],
     link_districts: &mut [u32; 1024],
-) {
+) -> Counts {
     fill_table(
         text,
         &mut *links,
@@ -139,9 +153,11 @@ fn with_links(
     );
     let n = last_link(seen.links);
     with_path(
+        to,
+        clock,
+        name,
         text,
         seen,
-        svg,
         cut_numbers(&*links, 11 * n + 11),
         cut_floats(&*lengths, n + 1),
         cut_numbers(&*sets, 48 * n + 48),
@@ -152,11 +168,11 @@ fn with_links(
         &*values,
         &*link_powers,
         &*link_districts,
-    );
+    )
 }
 
 // A run with columns for the link table.
-pub fn with_table(text: &[u8], seen: Seen, svg: bool) {
+pub fn with_table(to: To, clock: Clock, name: &[u8], text: &[u8], seen: Seen) -> Counts {
     let mut links = [0u32; 11275];
     let mut lengths = [0.0f64; 1025];
     let mut sets = [0u32; 49200];
@@ -168,9 +184,11 @@ pub fn with_table(text: &[u8], seen: Seen, svg: bool) {
     let mut link_powers = [0.0f64; 3072];
     let mut link_districts = [0u32; 1024];
     with_links(
+        to,
+        clock,
+        name,
         text,
         seen,
-        svg,
         &mut links,
         &mut lengths,
         &mut sets,
@@ -181,5 +199,5 @@ pub fn with_table(text: &[u8], seen: Seen, svg: bool) {
         &mut values,
         &mut link_powers,
         &mut link_districts,
-    );
+    )
 }

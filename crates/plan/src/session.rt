@@ -1,4 +1,8 @@
 // One call after another.
+use crate::beside::Course;
+use crate::beside::course_behind;
+use crate::beside::no_course;
+use crate::beside::side_by_side;
 use crate::changes::Step;
 use crate::changes::change;
 use crate::changes::cut_list;
@@ -11,18 +15,21 @@ use crate::columns::Grades;
 use crate::columns::Heights;
 use crate::columns::Numbers;
 use crate::columns::Offsets;
+use crate::columns::Original;
 use crate::columns::Powers;
 use crate::columns::Speeds;
 use crate::columns::Tags;
-use crate::original::Lost;
-use crate::original::lost_behind;
-use crate::original::side_by_side;
+use crate::progress::Clock;
+use crate::progress::cleared;
+use crate::progress::progress;
 use link::train_params::TrainParams;
 use messages::lines::begins;
 use messages::outcomes::outcome;
-use messages::outcomes::told;
+use messages::refusals::change_refused;
+use messages::warnings::warning;
 use path::path_tpc::Answer;
 use path::path_tpc::PathTpc;
+use path_posted::posted_speed::posted_speed;
 use route::fields::float_at;
 use route::fill::train_of;
 use route::judge::Seen;
@@ -42,29 +49,37 @@ use route_reads::reads::list_powers;
 use route_reads::reads::no_straps;
 use route_reads::reads::read_line;
 use route_reads::reads::resistance_line;
-use show::plain;
-use show::real;
-use show::say;
-use show::tell;
-use show::tell_count;
+use show::To;
+use show::put;
+use show::put_count;
+use show::put_real;
 use si::Length;
 use si::Velocity;
 use view::history::History;
-use view::history::add_borders;
-use view::history::add_heights;
 use view::history::add_links;
 use view::history::nothing_joined;
-use view::picture::Frame;
 use view::picture::picture;
+use view::profile::add_borders;
+use view::profile::add_heights;
 use view::stretches::table;
 
-// The path, what was joined, the straps, and the line that is run.
+// The path, what was joined, the straps, the run of the original, and the line that is run; calls done and refused so far.
 pub struct Session {
     pub path: PathTpc,
     pub history: History,
     pub straps: Straps,
+    pub course: Course,
     pub line: usize,
-    pub calls: usize,
+    pub done: usize,
+    pub refused: usize,
+    pub dropped: bool,
+    pub warned: bool,
+}
+
+// How many calls were done, and how many refused.
+pub struct Counts {
+    pub done: usize,
+    pub refused: usize,
 }
 
 fn start() -> Session {
@@ -80,8 +95,12 @@ fn start() -> Session {
         path,
         history: nothing_joined(),
         straps: no_straps(),
+        course: no_course(),
         line: 0,
-        calls: 0,
+        done: 0,
+        refused: 0,
+        dropped: false,
+        warned: false,
     }
 }
 
@@ -93,10 +112,6 @@ fn next(n: usize) -> usize {
     n
 }
 
-fn end_line() {
-    say(b"\n");
-}
-
 // The last of n, from 0.
 fn last_of(n: usize) -> usize {
     if n == 0 {
@@ -105,49 +120,40 @@ fn last_of(n: usize) -> usize {
     n - 1
 }
 
-// What a call did to the path, behind the word that it is done.
-fn told_change(kind: u32, before: PathTpc, p: PathTpc, offsets: &[f64]) {
-    if kind == EXTEND {
-        say(b", the path has links: ");
-        plain(last_of(p.link_count));
-        say(b", it ends at ");
-        real(column::floats::get(offsets, last_of(p.link_count)));
+// One call more.
+fn counted(mut s: Session, done: bool) -> Session {
+    if done {
+        let n = next(s.done);
+        s.done = n;
+    } else {
+        let n = next(s.refused);
+        s.refused = n;
     }
-    if kind == CLEAR {
-        say(b", links left: ");
-        plain(last_of(p.link_count));
-        say(b" of ");
-        plain(last_of(before.link_count));
-        say(b", the path begins at ");
-        real(column::floats::get(offsets, 0));
-    }
-    say(b"\n");
+    s
 }
 
-// The answer of a call in words; behind a drop the original's speed beside it.
-fn answered(
-    svg: bool,
-    line: usize,
-    kind: u32,
-    before: PathTpc,
-    step: Step,
-    lost: Lost,
-    offsets: &Offsets,
-    speeds: &Speeds,
-) {
-    let answer = step.answer;
-    if svg {
-        told(line, answer);
-        return;
+// What a call did to the path, behind the word that it is done.
+fn told_change(out: i32, kind: u32, before: PathTpc, p: PathTpc, offsets: &[f64]) {
+    if kind == EXTEND {
+        put(out, b", the path has links: ");
+        put_count(out, last_of(p.link_count));
+        put(out, b", it ends at ");
+        put_real(out, column::floats::get(offsets, last_of(p.link_count)));
     }
-    begins(line, kind);
-    if outcome(answer) {
-        let p = step.path;
-        told_change(kind, before, p, offsets);
-        if kind == CLEAR {
-            side_by_side(lost, speeds);
-        }
+    if kind == CLEAR {
+        put(out, b", links left: ");
+        put_count(out, last_of(p.link_count));
+        put(out, b" of ");
+        put_count(out, last_of(before.link_count));
+        put(out, b", the path begins at ");
+        put_real(out, column::floats::get(offsets, 0));
     }
+    put(out, b"\n");
+}
+
+// Whether a call dropped links.
+fn drops(kind: u32, before: PathTpc, p: PathTpc) -> bool {
+    (kind == CLEAR) & (p.link_count < before.link_count)
 }
 
 // The links whose limits a call that is done laid anew: those joined by an extension, or all; from one link point to another.
@@ -181,7 +187,8 @@ fn joined_links(
     p: PathTpc,
     offsets: &Offsets,
     numbers: &Numbers,
-    grades: &Grades,
+    links: &[u32],
+    elevs: &[f64],
     borders: &mut Borders,
     heights: &mut Heights,
 ) -> History {
@@ -189,9 +196,12 @@ fn joined_links(
     let to = last_of(p.link_count);
     let b = add_borders(offsets, numbers, from, to, &mut *borders, h.borders);
     let g = add_heights(
-        grades,
-        last_of(before.grade_count),
-        p.grade_count,
+        offsets,
+        numbers,
+        from,
+        to,
+        links,
+        elevs,
         &mut *heights,
         h.heights,
     );
@@ -210,7 +220,8 @@ fn joined(
     train: TrainParams,
     offsets: &Offsets,
     numbers: &Numbers,
-    grades: &Grades,
+    links: &[u32],
+    elevs: &[f64],
     sets: &[u32],
     limits: &[f64],
     codes: &[u32],
@@ -262,7 +273,8 @@ fn joined(
         p,
         offsets,
         numbers,
-        grades,
+        links,
+        elevs,
         &mut *borders,
         &mut *heights,
     )
@@ -279,42 +291,33 @@ fn straps_behind(kind: u32, s: Straps, grades: usize, curves: usize) -> Straps {
     s
 }
 
-// The session behind a call: as it was where the call is refused.
-fn behind(kind: u32, s: Session, step: Step, history: History) -> Session {
+// The session behind a call that may change the path: its count alone where the call is refused.
+fn behind(kind: u32, s: Session, step: Step, history: History, course: Course) -> Session {
     let answer = step.answer;
     if answer.number != 0 {
-        return s;
+        return counted(s, false);
     }
     let path = step.path;
     let straps = s.straps;
-    Session {
-        path,
-        history,
-        straps: straps_behind(kind, straps, step.grades, step.curves),
-        line: s.line,
-        calls: s.calls,
-    }
+    let mut r = counted(s, true);
+    let old = s.path;
+    let dropped = (kind != NEW) & (s.dropped | drops(kind, old, path));
+    r.path = path;
+    r.history = history;
+    r.straps = straps_behind(kind, straps, step.grades, step.curves);
+    r.course = course;
+    r.dropped = dropped;
+    r.warned = s.warned | ((kind == RECALCULATE) & s.dropped);
+    r
 }
 
-// No call that may change the path: as a refused one.
-fn not_made(path: PathTpc) -> Step {
-    Step {
-        answer: Answer {
-            number: 1,
-            place: 0,
-        },
-        path,
-        grades: 0,
-        curves: 0,
-    }
-}
-
-// A call that may change the path, and its answer in words; nothing where the line has none.
+// A call that may change the path, its answer in words, and where it is refused the whole reason.
 fn made(
+    to: To,
+    name: &[u8],
     text: &[u8],
     at: usize,
     kind: u32,
-    svg: bool,
     train: TrainParams,
     s: Session,
     offsets: &mut Offsets,
@@ -336,17 +339,13 @@ fn made(
     link_districts: &[u32],
 ) -> Step {
     let before = s.path;
-    if (kind < NEW) | (REINDEX < kind) {
-        return not_made(before);
-    }
-    let x = Length(float_at(text, at, 1));
+    let x = float_at(text, at, 1);
     let mut list = [0u32; 1025];
     let n = list_of(text, at, &mut list);
-    let lost = lost_behind(before, x, &*offsets, &*speeds);
     let step = change(
         kind,
         train,
-        x,
+        Length(x),
         cut_list(&list, n),
         before,
         &mut *offsets,
@@ -367,32 +366,46 @@ fn made(
         link_powers,
         link_districts,
     );
-    answered(svg, s.line, kind, before, step, lost, &*offsets, &*speeds);
+    let answer = step.answer;
+    begins(to.out, s.line, kind);
+    if outcome(to.out, answer) {
+        let p = step.path;
+        told_change(to.out, kind, before, p, &*offsets);
+        return step;
+    }
+    change_refused(
+        to.err,
+        name,
+        text,
+        s.line,
+        kind,
+        answer,
+        x,
+        cut_list(&list, n),
+        before,
+        train,
+        &*offsets,
+        &*numbers,
+        links,
+        lengths,
+        sets,
+        elevs,
+        headings,
+        limits,
+        codes,
+        values,
+        link_powers,
+        link_districts,
+    );
     step
 }
 
-// The table of stretches.
-fn show_table(s: Session, train: TrainParams, speeds: &Speeds, boards: &Boards, tags: &Tags) {
-    let p = s.path;
-    let h = s.history;
-    table(
-        speeds,
-        p.speed_count,
-        boards,
-        tags,
-        h.limits,
-        Velocity(train.speed_max.0),
-    );
-}
-
-// A call that reads the path, which a picture leaves out.
-fn looked(
-    text: &[u8],
-    at: usize,
+// What the original and the port post at the beginning of a path whose links were dropped.
+fn compared(
+    out: i32,
     kind: u32,
-    svg: bool,
-    train: TrainParams,
-    mut s: Session,
+    before: PathTpc,
+    s: Session,
     offsets: &Offsets,
     numbers: &Numbers,
     grades: &Grades,
@@ -402,33 +415,18 @@ fn looked(
     districts: &Districts,
     boards: &Boards,
     tags: &Tags,
-) -> Session {
-    if svg | (kind <= REINDEX) {
-        return s;
-    }
+    original: &Original,
+) {
     let p = s.path;
-    begins(s.line, kind);
-    if kind == SHOW {
-        end_line();
-        show_table(s, train, speeds, boards, tags);
-        return s;
+    let h = s.history;
+    let course = s.course;
+    if !drops(kind, before, p) {
+        return;
     }
-    if kind == POWERS {
-        list_powers(powers, districts, p.power_count);
-        return s;
-    }
-    if kind == RESISTANCE {
-        let straps = s.straps;
-        let after = resistance_line(text, at, train, straps, p, grades, curves);
-        s.straps = after;
-        return s;
-    }
-    read_line(
-        text,
-        at,
-        kind,
-        train,
+    let x = column::floats::get(offsets, 0);
+    let r = posted_speed(
         p,
+        Length(x),
         offsets,
         numbers,
         grades,
@@ -437,27 +435,87 @@ fn looked(
         powers,
         districts,
     );
-    s
+    side_by_side(
+        out,
+        Length(x),
+        Velocity(r.speed.0),
+        course,
+        original,
+        boards,
+        tags,
+        h.limits,
+    );
 }
 
-// The session at the next line, of this kind.
-fn at_line(kind: u32, mut s: Session) -> Session {
-    let line = next(s.line);
-    s.line = line;
-    if NEW <= kind {
-        let calls = next(s.calls);
-        s.calls = calls;
+// A recalculation after a drop: said once for a file.
+fn recalculated(to: To, name: &[u8], kind: u32, s: Session, step: Step) {
+    let answer = step.answer;
+    if (answer.number == 0) & (kind == RECALCULATE) & s.dropped & !s.warned {
+        warning(to.err, name, s.line);
+        put(
+            to.err,
+            b"a recalculation after a drop: limits of dropped links, and their tails, are no longer laid\n",
+        );
     }
-    s
 }
 
-// One line of a route.
-fn turn(
+// More limits than there are records for: said when the last record is taken.
+fn overfull(to: To, name: &[u8], s: Session, h: History, boards: &Boards) {
+    let before = s.history;
+    if (before.limits < boards.len() / 3) & (boards.len() / 3 <= h.limits) {
+        warning(to.err, name, s.line);
+        put(
+            to.err,
+            b"32768 limits are listed, and no more: a row may be held by one that is not\n",
+        );
+    }
+}
+
+// The run of the original behind a call; as it was where the call is refused.
+fn followed(
+    kind: u32,
+    s: Session,
+    step: Step,
+    h: History,
+    train: TrainParams,
+    offsets: &Offsets,
+    boards: &Boards,
+    tags: &Tags,
+    original: &mut Original,
+) -> Course {
+    let answer = step.answer;
+    let before = s.history;
+    let course = s.course;
+    let old = s.path;
+    let p = step.path;
+    if answer.number != 0 {
+        return course;
+    }
+    let from = if kind == EXTEND { before.limits } else { 0 };
+    course_behind(
+        kind,
+        course,
+        Length(column::floats::get(offsets, 0)),
+        Velocity(train.speed_max.0),
+        from,
+        h.limits,
+        drops(kind, old, p),
+        h.limits < boards.len() / 3,
+        &mut *original,
+        boards,
+        tags,
+    )
+}
+
+// A line whose call may change the path.
+fn changed(
+    to: To,
+    name: &[u8],
     text: &[u8],
     at: usize,
-    svg: bool,
+    kind: u32,
     train: TrainParams,
-    before: Session,
+    s: Session,
     offsets: &mut Offsets,
     numbers: &mut Numbers,
     grades: &mut Grades,
@@ -479,14 +537,14 @@ fn turn(
     tags: &mut Tags,
     borders: &mut Borders,
     heights: &mut Heights,
+    original: &mut Original,
 ) -> Session {
-    let kind = kind_of(text, at);
-    let s = at_line(kind, before);
     let step = made(
+        to,
+        name,
         text,
         at,
         kind,
-        svg,
         train,
         s,
         &mut *offsets,
@@ -514,7 +572,8 @@ fn turn(
         train,
         &*offsets,
         &*numbers,
-        &*grades,
+        links,
+        elevs,
         sets,
         limits,
         codes,
@@ -524,13 +583,26 @@ fn turn(
         &mut *borders,
         &mut *heights,
     );
-    looked(
-        text,
-        at,
+    let course = followed(
         kind,
-        svg,
+        s,
+        step,
+        h,
         train,
-        behind(kind, s, step, h),
+        &*offsets,
+        &*boards,
+        &*tags,
+        &mut *original,
+    );
+    recalculated(to, name, kind, s, step);
+    overfull(to, name, s, h, &*boards);
+    let before = s.path;
+    let after = behind(kind, s, step, h, course);
+    compared(
+        to.out,
+        kind,
+        before,
+        after,
         &*offsets,
         &*numbers,
         &*grades,
@@ -540,68 +612,113 @@ fn turn(
         &*districts,
         &*boards,
         &*tags,
-    )
+        &*original,
+    );
+    after
 }
 
-// Progress of a run of many calls, to standard error.
-fn progress(done: usize, all: usize) {
-    if all < 200 {
-        return;
-    }
-    if done % 100 == 0 {
-        tell(b"plan: call ");
-        tell_count(done);
-        tell(b" of ");
-        tell_count(all);
-        tell(b"\n");
-    }
+// The table of stretches.
+fn show_table(s: Session, train: TrainParams, speeds: &Speeds, boards: &Boards, tags: &Tags) {
+    let p = s.path;
+    let h = s.history;
+    table(
+        speeds,
+        p.speed_count,
+        boards,
+        tags,
+        h.limits,
+        Velocity(train.speed_max.0),
+    );
 }
 
-// What the calls leave, as a table or as a picture.
-fn result(
-    svg: bool,
+// A line whose call reads the path; behind a picture nothing of it is shown but a refusal.
+fn looked(
+    to: To,
+    name: &[u8],
+    text: &[u8],
+    at: usize,
+    kind: u32,
     train: TrainParams,
     s: Session,
     offsets: &Offsets,
+    numbers: &Numbers,
+    grades: &Grades,
+    curves: &Curves,
     speeds: &Speeds,
+    powers: &Powers,
+    districts: &Districts,
     boards: &Boards,
     tags: &Tags,
-    borders: &Borders,
-    heights: &Heights,
-) {
+) -> Session {
     let p = s.path;
-    let h = s.history;
-    if svg {
-        let frame = Frame {
-            first: 0.0,
-            begin: column::floats::get(offsets, 0),
-            last: column::floats::get(offsets, last_of(p.link_count)),
-            top: ieee::size(train.speed_max.0),
-            low: 0.0,
-            high: 0.0,
-        };
-        picture(
-            frame,
-            speeds,
-            p.speed_count,
-            boards,
-            tags,
-            h.limits,
-            borders,
-            h.borders,
-            heights,
-            h.heights,
-        );
-        return;
+    let line = s.line;
+    begins(to.out, line, kind);
+    if kind == SHOW {
+        put(to.out, b"\n");
+        if 0 <= to.out {
+            show_table(s, train, speeds, boards, tags);
+        }
+        return counted(s, true);
     }
-    show_table(s, train, speeds, boards, tags);
+    if kind == POWERS {
+        list_powers(to.out, powers, districts, p.power_count);
+        return counted(s, true);
+    }
+    if kind == RESISTANCE {
+        let standing = s.straps;
+        let r = resistance_line(
+            to,
+            name,
+            line,
+            text,
+            at,
+            train,
+            standing,
+            p,
+            offsets,
+            grades,
+            curves,
+        );
+        let straps = r.straps;
+        let mut after = counted(s, r.done);
+        after.straps = straps;
+        return after;
+    }
+    let done = read_line(
+        to,
+        name,
+        line,
+        text,
+        at,
+        kind,
+        train,
+        p,
+        offsets,
+        numbers,
+        grades,
+        curves,
+        speeds,
+        powers,
+        districts,
+    );
+    counted(s, done)
 }
 
-// All lines of a route that can be read.
-pub fn run(
+// The session at the next line.
+fn at_line(mut s: Session) -> Session {
+    let line = next(s.line);
+    s.line = line;
+    s
+}
+
+// One line of a route.
+fn turn(
+    to: To,
+    name: &[u8],
     text: &[u8],
-    seen: Seen,
-    svg: bool,
+    at: usize,
+    train: TrainParams,
+    before: Session,
     offsets: &mut Offsets,
     numbers: &mut Numbers,
     grades: &mut Grades,
@@ -623,15 +740,156 @@ pub fn run(
     tags: &mut Tags,
     borders: &mut Borders,
     heights: &mut Heights,
+    original: &mut Original,
+) -> Session {
+    let kind = kind_of(text, at);
+    let s = at_line(before);
+    if kind < NEW {
+        return s;
+    }
+    if REINDEX < kind {
+        return looked(
+            to,
+            name,
+            text,
+            at,
+            kind,
+            train,
+            s,
+            &*offsets,
+            &*numbers,
+            &*grades,
+            &*curves,
+            &*speeds,
+            &*powers,
+            &*districts,
+            &*boards,
+            &*tags,
+        );
+    }
+    changed(
+        to,
+        name,
+        text,
+        at,
+        kind,
+        train,
+        s,
+        &mut *offsets,
+        &mut *numbers,
+        &mut *grades,
+        &mut *curves,
+        &mut *speeds,
+        &mut *powers,
+        &mut *districts,
+        links,
+        lengths,
+        sets,
+        elevs,
+        headings,
+        limits,
+        codes,
+        values,
+        link_powers,
+        link_districts,
+        &mut *boards,
+        &mut *tags,
+        &mut *borders,
+        &mut *heights,
+        &mut *original,
+    )
+}
+
+// How many calls were done and refused: the last line of a run.
+fn calls_told(out: i32, s: Session) {
+    put(out, b"calls: ");
+    put_count(out, s.done);
+    put(out, b" done, ");
+    put_count(out, s.refused);
+    put(out, b" refused\n");
+}
+
+// What the calls leave: the table, or behind --svg a picture.
+fn result(
+    to: To,
+    name: &[u8],
+    train: TrainParams,
+    s: Session,
+    offsets: &Offsets,
+    speeds: &Speeds,
+    boards: &Boards,
+    tags: &Tags,
+    borders: &Borders,
+    heights: &Heights,
 ) {
+    let p = s.path;
+    let h = s.history;
+    if 0 <= to.out {
+        show_table(s, train, speeds, boards, tags);
+        calls_told(to.out, s);
+        return;
+    }
+    picture(
+        name,
+        train,
+        column::floats::get(offsets, 0),
+        column::floats::get(offsets, last_of(p.link_count)),
+        speeds,
+        p.speed_count,
+        boards,
+        tags,
+        h.limits,
+        borders,
+        h.borders,
+        heights,
+        h.heights,
+    );
+    put(to.err, b"plan: ");
+    put(to.err, name);
+    put(to.err, b": ");
+    calls_told(to.err, s);
+}
+
+// All lines of a route that can be read.
+pub fn run(
+    to: To,
+    clock: Clock,
+    name: &[u8],
+    text: &[u8],
+    seen: Seen,
+    offsets: &mut Offsets,
+    numbers: &mut Numbers,
+    grades: &mut Grades,
+    curves: &mut Curves,
+    speeds: &mut Speeds,
+    powers: &mut Powers,
+    districts: &mut Districts,
+    links: &[u32],
+    lengths: &[f64],
+    sets: &[u32],
+    elevs: &[f64],
+    headings: &[f64],
+    limits: &[f64],
+    codes: &[u32],
+    values: &[f64],
+    link_powers: &[f64],
+    link_districts: &[u32],
+    boards: &mut Boards,
+    tags: &mut Tags,
+    borders: &mut Borders,
+    heights: &mut Heights,
+    original: &mut Original,
+) -> Counts {
     let train = train_of(text, seen.train_at);
     let mut s = start();
+    let mut c = clock;
     let mut at = 0;
     while at < text.len() {
         s = turn(
+            to,
+            name,
             text,
             at,
-            svg,
             train,
             s,
             &mut *offsets,
@@ -655,12 +913,15 @@ pub fn run(
             &mut *tags,
             &mut *borders,
             &mut *heights,
+            &mut *original,
         );
-        progress(s.calls, seen.calls);
+        c = progress(c, to.err, s.done, seen.calls);
         at = next_line(text, at);
     }
+    cleared(c, to.err);
     result(
-        svg,
+        to,
+        name,
         train,
         s,
         &*offsets,
@@ -670,4 +931,8 @@ pub fn run(
         &*borders,
         &*heights,
     );
+    Counts {
+        done: s.done,
+        refused: s.refused,
+    }
 }

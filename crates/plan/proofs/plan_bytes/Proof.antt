@@ -1,7 +1,7 @@
 -- `plan_bytes`: the part is as long as what was read.
-use borrow.Author.Needs.{needs}
 use native.Mathlib.Omega.{arith}
 use lib.ListN.{length-take}
+use borrow.Author.Needs.{needs}
 use Rattle.plan.proofs.plan_bytes.Statement.{statement}
 use Rattle.plan.proofs.plan_bytes.Tie as tie
 
@@ -14,11 +14,11 @@ plan-text-requires c κs = search needs
 returns : tie.Need-returns
 returns c = search needs
 
-slice-aggregate-say : tie.Need-slice-aggregate-say
-slice-aggregate-say c = search needs
+slice-aggregate-wrong : tie.Need-slice-aggregate-wrong
+slice-aggregate-wrong c = search needs
 
-say-requires : tie.Need-say-requires
-say-requires c κs = search needs
+wrong-requires : tie.Need-wrong-requires
+wrong-requires c κs = search needs
 
 returns-2 : tie.Need-returns-2
 returns-2 c = search needs
@@ -30,6 +30,6 @@ plan-bytes-spec =
     slice-aggregate-plan-text
     plan-text-requires
     returns
-    slice-aggregate-say
-    say-requires
+    slice-aggregate-wrong
+    wrong-requires
     returns-2)
