@@ -1,35 +1,26 @@
 /*
- * Mochaspit: the path that a train runs on, with its speed limits, grades and curves.
+ * Mochaspit: the path that a train runs on, with its speed limits, grades and curves. For C99 and C++11.
  *
- * A path is a record of counts, mochaspit_path_tpc, and seven columns that the caller lends to each call and keeps with the record.
- * Links come from a link table, ten columns that calls only read. Records travel by value. No call allocates, keeps a pointer, or
- * has state of its own: calls on different columns may run at once.
+ * A path is a record of counts, mochaspit_path_tpc, and seven columns, struct mochaspit_columns, that the caller lends to each call and
+ * keeps with the record. Links come from a link table, struct mochaspit_table, ten columns that calls only read. Records travel by value.
+ * No call allocates, keeps a pointer, or has state of its own: calls on different columns may run at once.
  *
- * Units: metres, metres a second, kilograms, newtons, watts and radians, as doubles. The processor must round to nearest and keep
- * subnormal numbers, as it does unless a program asks for something else.
+ * Units: metres, metres a second, kilograms, newtons, watts and radians, as doubles.
  *
  * Link with libcapi.a, which `rt staticlib capi` writes to target/staticlib (x86-64, System V calling convention), and with the C
- * library's mathematics: -lcapi -lm.
+ * library's mathematics: -lcapi -lm. `tools/install PREFIX` installs header, archive and a pkg-config file. bindings/c/example.c is a
+ * program that uses it.
+ *
+ * The processor must round to nearest and keep subnormal numbers, as it does unless a program asks for something else; one that gcc links
+ * with -ffast-math or -Ofast does ask, for subnormals as 0. Floating-point traps (feenableexcept) must be off: questions compute with
+ * whatever is handed in. With a trap on, a call that would be refused with 8, or that is handed a NaN, may end the program with SIGFPE.
  *
  *
  * ANSWERS
  *
  * Every call puts its questions in a fixed order, each over the whole input before the next. The first one that is answered with no
- * gives the number of the answer. Any numbers may be handed in. Numbers:
- *
- *    0  done
- *    1  a number that was handed in is not finite, a train has no length, its top speed is below 0, or a code is unknown
- *    2  the path does not hold together: its counts, offsets or link numbers disagree; or a list to be searched is empty
- *    3  the path is finished: nothing can be joined to it
- *    4  a link number is 0 or not in the table; for new numbers: there is none for a link, or it is 0
- *    5  a link does not follow the link before it
- *    6  a link of the table is not well formed
- *    7  a link has no speed set for this train
- *    8  a sum, product or quotient is too large, or a link's end is not beyond its beginning
- *    9  the records do not fit in the columns
- *   10  the offset lies outside the path or the list; there is no such link
- *   11  the index to start from is not in the list; fewer records lie before an index than are to be taken off
- *   12  the path has no link to drop
+ * gives the number of the answer, 0 for done; enum mochaspit_refusal has the numbers, mochaspit_text a text for each. Any numbers may be
+ * handed in. A compiler with GNU C's attributes warns where an answer is not used.
  *
  * The place is, for 4 to 8 of mochaspit_extend, the first failing position in the list of links, from 0; for mochaspit_recalc_speeds
  * and mochaspit_reindex the index of the link point; for mochaspit_clear_each the position of the refused trim in the list; otherwise 0.
@@ -37,7 +28,19 @@
  * A refused call leaves every column and every record as it came, and has 0 for each value that was asked for.
  *
  *
+ * RECORDS
+ *
+ * A call that may change a path answers the path's record, done or refused. Keep that one and no other: columns and record belong
+ * together, and no question finds out that a record is an older one. A record from before a recalculation that laid two limits, with
+ * one speed point, is still answered yes to questions 1 and 2, although the columns have five points by now: mochaspit_posted_speed sees
+ * the first and answers the top speed within both limits, and mochaspit_finish with that record overwrites the other four with zeros.
+ *
+ *
  * CALLS
+ *
+ * Each call that takes columns, a link table or a list is there twice. mochaspit_path_ and mochaspit_list_ calls take them as structs, so
+ * that no column can stand in another one's place unless its field is named. They hand them to the flat functions below, which are the
+ * archive's, take each column as two arguments, and have the same names without path_ or list_; there stands what each call does.
  *
  * The original's, under its names, mochaspit_point_ and mochaspit_strap_ standing for its types Point and Strap: mochaspit_new, _extend,
  * _clear, _finish, _recalc_speeds, _reindex, _calc_idx, _set_link_and_offset, and of both types _new, _calc_res, _res_coeff_front,
@@ -49,9 +52,10 @@
  *
  * COLUMNS
  *
- * A column is two arguments, a pointer and the number of entries. The pointer must not be NULL, also where the length is 0, and must
- * be aligned for its entries. The length may be 0. Columns lent to be written must overlap neither each other nor anything that the
- * same call reads. Entries may hold anything, NaN included: a call refuses what it cannot use.
+ * A column is a pointer and a length. The length is the number of entries, neither of records nor of bytes: 3 for one grade. It may be 0.
+ * In the structs NULL is a column without entries, whatever its length says. The flat functions take no NULL, also where the length is 0.
+ * A pointer must be aligned for its entries. Columns lent to be written must overlap neither each other nor anything that the same call
+ * reads. Entries may hold anything, NaN included: a call refuses what it cannot use.
  *
  * A path's columns, with the entries of a record side by side. A column that is shorter than its bound is the bound, a longer one
  * does not raise it, and of two columns of one kind the shorter counts:
@@ -101,9 +105,69 @@
 #include <stddef.h>
 #include <stdint.h>
 
+/* ---- version of this header and of the archive that belongs to it */
+
+#define MOCHASPIT_VERSION_MAJOR 0
+#define MOCHASPIT_VERSION_MINOR 10
+#define MOCHASPIT_VERSION_PATCH 0
+#define MOCHASPIT_VERSION "0.10.0"
+
+/* ---- attributes: an answer must be used; pointers, or those at the positions given, must not be NULL */
+
+#if defined(__GNUC__) || defined(__clang__)
+#define MOCHASPIT_MUST_USE __attribute__((warn_unused_result))
+#define MOCHASPIT_NONNULL __attribute__((nonnull))
+#define MOCHASPIT_NONNULL_AT(...) __attribute__((nonnull(__VA_ARGS__)))
+#else
+#define MOCHASPIT_MUST_USE
+#define MOCHASPIT_NONNULL
+#define MOCHASPIT_NONNULL_AT(...)
+#endif
+
 #ifdef __cplusplus
 extern "C" {
 #endif
+
+/* ---- refusals */
+
+/* The number of an answer: done, or the question that was answered with no. Later versions may have more. */
+enum mochaspit_refusal {
+    MOCHASPIT_DONE = 0,
+    MOCHASPIT_BAD_NUMBER = 1,
+    MOCHASPIT_UNSOUND = 2,
+    MOCHASPIT_FINISHED = 3,
+    MOCHASPIT_NO_SUCH_LINK = 4,
+    MOCHASPIT_NOT_FOLLOWING = 5,
+    MOCHASPIT_MALFORMED_LINK = 6,
+    MOCHASPIT_NO_SPEED_SET = 7,
+    MOCHASPIT_BAD_RESULT = 8,
+    MOCHASPIT_NO_ROOM = 9,
+    MOCHASPIT_OUT_OF_RANGE = 10,
+    MOCHASPIT_BAD_INDEX = 11,
+    MOCHASPIT_NO_LINKS = 12
+};
+
+/* What a number says, in words; never NULL. */
+MOCHASPIT_MUST_USE
+static inline const char *mochaspit_text(uint32_t number)
+{
+    switch (number) {
+    case MOCHASPIT_DONE: return "done";
+    case MOCHASPIT_BAD_NUMBER: return "a number is not finite, a train's length not above 0 or its top speed below 0, or a code is unknown";
+    case MOCHASPIT_UNSOUND: return "the path's record and columns do not belong together, or a list is empty or longer than its column";
+    case MOCHASPIT_FINISHED: return "the path is finished: nothing can be joined to it, and it cannot be finished again";
+    case MOCHASPIT_NO_SUCH_LINK: return "a link number is 0 or not in the table, or a link gets no new number or the number 0";
+    case MOCHASPIT_NOT_FOLLOWING: return "a link does not follow the one before it, or its two neighbours on one side are the same link";
+    case MOCHASPIT_MALFORMED_LINK: return "a link of the table is not well formed";
+    case MOCHASPIT_NO_SPEED_SET: return "a link has no speed set for this train";
+    case MOCHASPIT_BAD_RESULT: return "a result is too large or no number, or a link's end is not beyond its beginning";
+    case MOCHASPIT_NO_ROOM: return "the records do not fit in the columns or within their bounds";
+    case MOCHASPIT_OUT_OF_RANGE: return "an offset lies outside the path or the list, or the path has no such link";
+    case MOCHASPIT_BAD_INDEX: return "no search may start from the index, no record is at it, or fewer records lie before it than are taken off";
+    case MOCHASPIT_NO_LINKS: return "the path has no link to drop";
+    default: return "no answer has this number";
+    }
+}
 
 /* ---- bounds and codes */
 
@@ -303,7 +367,144 @@ typedef struct mochaspit_strap_res {
     double res;
 } mochaspit_strap_res;
 
-/* ---- calls that may change a path; a refused one leaves the columns as they came and answers the record that it was given */
+/* ---- columns, table and list */
+
+/* A path's columns: of each the pointer to its first entry, or NULL, and how many entries it has. A struct that is all zeros to begin with
+ * (static, or set so) has NULL where no column is lent. */
+typedef struct mochaspit_columns {
+    double *offsets;
+    size_t offsets_len;
+    uint32_t *numbers;
+    size_t numbers_len;
+    double *grades;
+    size_t grades_len;
+    double *curves;
+    size_t curves_len;
+    double *speeds;
+    size_t speeds_len;
+    double *powers;
+    size_t powers_len;
+    uint32_t *districts;
+    size_t districts_len;
+} mochaspit_columns;
+
+/* The link table's columns, likewise. A pool that no link has records in may be NULL. */
+typedef struct mochaspit_table {
+    const uint32_t *links;
+    size_t links_len;
+    const double *lengths;
+    size_t lengths_len;
+    const uint32_t *sets;
+    size_t sets_len;
+    const double *elevs;
+    size_t elevs_len;
+    const double *headings;
+    size_t headings_len;
+    const double *limits;
+    size_t limits_len;
+    const uint32_t *codes;
+    size_t codes_len;
+    const double *values;
+    size_t values_len;
+    const double *link_powers;
+    size_t link_powers_len;
+    const uint32_t *link_districts;
+    size_t link_districts_len;
+} mochaspit_table;
+
+/* Lends an array, which must not be a pointer, as a column of one of these structs: MOCHASPIT_LEND(columns, grades, my_grades). */
+#define MOCHASPIT_LEND(to, column, array) ((to).column = (array), (to).column##_len = sizeof(array) / sizeof((array)[0]))
+
+/* A list of n records, three entries each, in a column of grades or curves: its pointer, or NULL, and how many entries it has.
+ * mochaspit_path_grades and mochaspit_path_curves make one. */
+typedef struct mochaspit_list {
+    const double *col;
+    size_t col_len;
+    size_t n;
+} mochaspit_list;
+
+/* ---- calls with structs: mochaspit_path_X is mochaspit_X with these columns and this table, mochaspit_list_X is mochaspit_X with this
+ * list. What X does stands below. A list of links, of offsets or of other numbers may be NULL: one without entries. */
+
+MOCHASPIT_MUST_USE MOCHASPIT_NONNULL
+static inline mochaspit_path_answer mochaspit_path_new(mochaspit_train train, const mochaspit_columns *columns);
+
+MOCHASPIT_MUST_USE MOCHASPIT_NONNULL_AT(5, 6)
+static inline mochaspit_path_answer mochaspit_path_extend(
+    mochaspit_path_tpc path, mochaspit_train train, const uint32_t *list, size_t list_len, const mochaspit_columns *columns,
+    const mochaspit_table *table);
+
+MOCHASPIT_MUST_USE MOCHASPIT_NONNULL
+static inline mochaspit_clear_answer mochaspit_path_clear(mochaspit_path_tpc path, double offset, const mochaspit_columns *columns);
+
+MOCHASPIT_MUST_USE MOCHASPIT_NONNULL_AT(4)
+static inline mochaspit_clear_answer mochaspit_path_clear_each(
+    mochaspit_path_tpc path, const double *xs, size_t xs_len, const mochaspit_columns *columns);
+
+MOCHASPIT_MUST_USE MOCHASPIT_NONNULL
+static inline mochaspit_path_answer mochaspit_path_finish(mochaspit_path_tpc path, const mochaspit_columns *columns);
+
+MOCHASPIT_MUST_USE MOCHASPIT_NONNULL
+static inline mochaspit_path_answer mochaspit_path_recalc_speeds(
+    mochaspit_path_tpc path, mochaspit_train train, const mochaspit_columns *columns, const mochaspit_table *table);
+
+MOCHASPIT_MUST_USE MOCHASPIT_NONNULL_AT(4)
+static inline mochaspit_path_answer mochaspit_path_reindex(
+    mochaspit_path_tpc path, const uint32_t *renumbered, size_t renumbered_len, const mochaspit_columns *columns);
+
+MOCHASPIT_MUST_USE MOCHASPIT_NONNULL
+static inline mochaspit_range_answer mochaspit_path_link_grades(mochaspit_path_tpc path, size_t k, const mochaspit_columns *columns);
+
+MOCHASPIT_MUST_USE MOCHASPIT_NONNULL
+static inline mochaspit_range_answer mochaspit_path_link_curves(mochaspit_path_tpc path, size_t k, const mochaspit_columns *columns);
+
+MOCHASPIT_MUST_USE MOCHASPIT_NONNULL
+static inline mochaspit_posted_answer mochaspit_path_posted_speed(mochaspit_path_tpc path, double offset, const mochaspit_columns *columns);
+
+MOCHASPIT_MUST_USE MOCHASPIT_NONNULL
+static inline mochaspit_state_answer mochaspit_path_set_link_and_offset(
+    mochaspit_train_state state, mochaspit_path_tpc path, const mochaspit_columns *columns);
+
+/* The path's grades as a list, and its curves. No questions: a call on the list puts them. */
+MOCHASPIT_MUST_USE MOCHASPIT_NONNULL
+static inline mochaspit_list mochaspit_path_grades(mochaspit_path_tpc path, const mochaspit_columns *columns);
+MOCHASPIT_MUST_USE MOCHASPIT_NONNULL
+static inline mochaspit_list mochaspit_path_curves(mochaspit_path_tpc path, const mochaspit_columns *columns);
+
+MOCHASPIT_MUST_USE
+static inline mochaspit_searched mochaspit_list_calc_idx(mochaspit_list list, double offset, size_t hint, uint32_t dir);
+
+MOCHASPIT_MUST_USE
+static inline mochaspit_point_answer mochaspit_list_point_new(mochaspit_list list, mochaspit_train_state state);
+MOCHASPIT_MUST_USE
+static inline mochaspit_point_res mochaspit_list_point_calc_res(
+    mochaspit_point point, mochaspit_list list, mochaspit_train_state state, uint32_t dir);
+MOCHASPIT_MUST_USE
+static inline mochaspit_coeff_answer mochaspit_list_point_res_coeff_front(mochaspit_point point, mochaspit_list list);
+MOCHASPIT_MUST_USE
+static inline mochaspit_net_answer mochaspit_list_point_res_net_front(
+    mochaspit_point point, mochaspit_list list, mochaspit_train_state state);
+
+MOCHASPIT_MUST_USE
+static inline mochaspit_strap_answer mochaspit_list_strap_new(mochaspit_list list, mochaspit_train_state state);
+MOCHASPIT_MUST_USE
+static inline mochaspit_strap_res mochaspit_list_strap_calc_res(
+    mochaspit_strap strap, mochaspit_list list, mochaspit_train_state state, uint32_t dir);
+MOCHASPIT_MUST_USE
+static inline mochaspit_strap_res mochaspit_list_strap_walk(
+    mochaspit_strap strap, mochaspit_list list, mochaspit_train_state state, uint32_t dir, double step, size_t count);
+MOCHASPIT_MUST_USE
+static inline mochaspit_coeff_answer mochaspit_list_strap_res_coeff_front(mochaspit_strap strap, mochaspit_list list);
+MOCHASPIT_MUST_USE
+static inline mochaspit_coeff_answer mochaspit_list_strap_res_coeff_back(mochaspit_strap strap, mochaspit_list list);
+MOCHASPIT_MUST_USE
+static inline mochaspit_net_answer mochaspit_list_strap_res_net_front(
+    mochaspit_strap strap, mochaspit_list list, mochaspit_train_state state);
+MOCHASPIT_MUST_USE
+static inline mochaspit_net_answer mochaspit_list_strap_res_net_back(
+    mochaspit_strap strap, mochaspit_list list, mochaspit_train_state state);
+
+/* ---- flat calls that may change a path; a refused one leaves the columns as they came and answers the record that it was given */
 
 /*
  * A path without links: one link point, grade and curve record, all zero, and the speed point (0, top speed). What the columns held
@@ -311,6 +512,7 @@ typedef struct mochaspit_strap_res {
  * Questions: 1 of the train; 9, room for one record of each kind but power limits.
  * Comes back: the record with the counts 1, 1, 1, 1, 0. Refused: the columns as they came, a record of zeros.
  */
+MOCHASPIT_MUST_USE MOCHASPIT_NONNULL
 mochaspit_path_answer mochaspit_new(
     mochaspit_train train,
     double *offsets, size_t offsets_len,
@@ -327,6 +529,7 @@ mochaspit_path_answer mochaspit_new(
  * two for each limit laid. The first link of a path need not follow any other.
  * Comes back: the record with the new counts. Refused: columns and record as they came, none of the links joined.
  */
+MOCHASPIT_MUST_USE MOCHASPIT_NONNULL
 mochaspit_path_answer mochaspit_extend(
     mochaspit_path_tpc path,
     mochaspit_train train,
@@ -356,6 +559,7 @@ mochaspit_path_answer mochaspit_extend(
  * Comes back: the record with the new counts, and in dropped the grades, curves and power limits that went, by which indices into
  * these columns fall (mochaspit_point_fix_cache, mochaspit_strap_fix_cache). Refused: columns and record as they came, dropped 0.
  */
+MOCHASPIT_MUST_USE MOCHASPIT_NONNULL
 mochaspit_clear_answer mochaspit_clear(
     mochaspit_path_tpc path,
     double offset,
@@ -374,6 +578,7 @@ mochaspit_clear_answer mochaspit_clear(
  * An empty list asks 1 and 2 and leaves zeros past the counts.
  * Comes back: the record with the new counts, and in dropped all that went. Refused: columns and record as they came, dropped 0.
  */
+MOCHASPIT_MUST_USE MOCHASPIT_NONNULL
 mochaspit_clear_answer mochaspit_clear_each(
     mochaspit_path_tpc path,
     const double *xs, size_t xs_len,
@@ -390,6 +595,7 @@ mochaspit_clear_answer mochaspit_clear_each(
  * Questions: 1 of the path; 2; 3; 9, room for the two records.
  * Comes back: the record, finished, with one grade and one curve more. Refused: columns and record as they came.
  */
+MOCHASPIT_MUST_USE MOCHASPIT_NONNULL
 mochaspit_path_answer mochaspit_finish(
     mochaspit_path_tpc path,
     double *offsets, size_t offsets_len,
@@ -407,6 +613,7 @@ mochaspit_path_answer mochaspit_finish(
  * speed point and two for each limit laid.
  * Comes back: the record with the new count of speed points. Refused: columns and record as they came.
  */
+MOCHASPIT_MUST_USE MOCHASPIT_NONNULL
 mochaspit_path_answer mochaspit_recalc_speeds(
     mochaspit_path_tpc path,
     mochaspit_train train,
@@ -433,6 +640,7 @@ mochaspit_path_answer mochaspit_recalc_speeds(
  * Questions: 1 of the path; 2; 4, a number for each link, and not 0, the place being its link point.
  * Comes back: the record as it was. Refused: columns and record as they came.
  */
+MOCHASPIT_MUST_USE MOCHASPIT_NONNULL
 mochaspit_path_answer mochaspit_reindex(
     mochaspit_path_tpc path,
     const uint32_t *renumbered, size_t renumbered_len,
@@ -444,13 +652,14 @@ mochaspit_path_answer mochaspit_reindex(
     double *powers, size_t powers_len,
     uint32_t *districts, size_t districts_len);
 
-/* ---- calls that only read a path */
+/* ---- flat calls that only read a path */
 
 /*
  * Where the grades of link k, from 0, lie: a range of entries of the column grades, three to a record.
  * Questions: 1 of the path; 2; 10, there is a k-th link.
  * Comes back: the range. Refused: the range 0, 0.
  */
+MOCHASPIT_MUST_USE MOCHASPIT_NONNULL
 mochaspit_range_answer mochaspit_link_grades(
     mochaspit_path_tpc path,
     size_t k,
@@ -463,6 +672,7 @@ mochaspit_range_answer mochaspit_link_grades(
     const uint32_t *districts, size_t districts_len);
 
 /* Where the curves of link k lie: as mochaspit_link_grades, in the column curves. */
+MOCHASPIT_MUST_USE MOCHASPIT_NONNULL
 mochaspit_range_answer mochaspit_link_curves(
     mochaspit_path_tpc path,
     size_t k,
@@ -479,6 +689,7 @@ mochaspit_range_answer mochaspit_link_curves(
  * Questions: 1 of the path and the offset; 2; 10, the offset not before the first link point.
  * Comes back: the speed, to the bit. Refused: 0.
  */
+MOCHASPIT_MUST_USE MOCHASPIT_NONNULL
 mochaspit_posted_answer mochaspit_posted_speed(
     mochaspit_path_tpc path,
     double offset,
@@ -496,6 +707,7 @@ mochaspit_posted_answer mochaspit_posted_speed(
  * Questions: 1 of position and path; 2; 10, front and back not before the first link point; 8, that distance.
  * Comes back: the position with link_idx_front, link_idx_back and offset_in_link written. Refused: the position as it came.
  */
+MOCHASPIT_MUST_USE MOCHASPIT_NONNULL
 mochaspit_state_answer mochaspit_set_link_and_offset(
     mochaspit_train_state state,
     mochaspit_path_tpc path,
@@ -507,7 +719,7 @@ mochaspit_state_answer mochaspit_set_link_and_offset(
     const double *powers, size_t powers_len,
     const uint32_t *districts, size_t districts_len);
 
-/* ---- calls on a list: the first n records of col, three entries each (offset, coefficient, net value), as grades and curves have
+/* ---- flat calls on a list: the first n records of col, three entries each (offset, coefficient, net value), as grades and curves have
  * them. Question 1 of a list: every number finite, but the last record's offset may be +infinity. Question 2: n is not 0, and the
  * column holds n records. Any number of records may be searched. */
 
@@ -518,6 +730,7 @@ mochaspit_state_answer mochaspit_set_link_and_offset(
  * forwards and unknown: the hint below the last index, backwards: an index.
  * Comes back: the index. Refused: 0.
  */
+MOCHASPIT_MUST_USE MOCHASPIT_NONNULL
 mochaspit_searched mochaspit_calc_idx(const double *col, size_t col_len, size_t n, double offset, size_t hint, uint32_t dir);
 
 /*
@@ -525,6 +738,7 @@ mochaspit_searched mochaspit_calc_idx(const double *col, size_t col_len, size_t 
  * Questions: 1 of position and list; 2; 8 of the middle; 10 and 11 of the search. A list of one record is always refused.
  * Comes back: the point. Refused: index 0.
  */
+MOCHASPIT_MUST_USE MOCHASPIT_NONNULL
 mochaspit_point_answer mochaspit_point_new(const double *col, size_t col_len, size_t n, mochaspit_train_state state);
 
 /*
@@ -532,6 +746,7 @@ mochaspit_point_answer mochaspit_point_new(const double *col, size_t col_len, si
  * Questions: 1 of dir, position and list; 2; 8 of the middle; 10 and 11 of the search; 8 of the force.
  * Comes back: the point moved, and the force. Refused: the point as it came, force 0.
  */
+MOCHASPIT_MUST_USE MOCHASPIT_NONNULL
 mochaspit_point_res mochaspit_point_calc_res(
     mochaspit_point point, const double *col, size_t col_len, size_t n, mochaspit_train_state state, uint32_t dir);
 
@@ -540,6 +755,7 @@ mochaspit_point_res mochaspit_point_calc_res(
  * Questions: 1 of the list; 2; 11, the index is in the list.
  * Comes back: the coefficient. Refused: 0.
  */
+MOCHASPIT_MUST_USE MOCHASPIT_NONNULL
 mochaspit_coeff_answer mochaspit_point_res_coeff_front(mochaspit_point point, const double *col, size_t col_len, size_t n);
 
 /*
@@ -547,10 +763,12 @@ mochaspit_coeff_answer mochaspit_point_res_coeff_front(mochaspit_point point, co
  * Questions: 1 of position and list; 2; 11; 8.
  * Comes back: the net value. Refused: 0.
  */
+MOCHASPIT_MUST_USE MOCHASPIT_NONNULL
 mochaspit_net_answer mochaspit_point_res_net_front(
     mochaspit_point point, const double *col, size_t col_len, size_t n, mochaspit_train_state state);
 
 /* The point's index. No questions. */
+MOCHASPIT_MUST_USE
 size_t mochaspit_point_path_tpc_idx_front(mochaspit_point point);
 
 /*
@@ -558,6 +776,7 @@ size_t mochaspit_point_path_tpc_idx_front(mochaspit_point point);
  * Questions: 11, sub is not above the index.
  * Comes back: the point with its index less sub. Refused: the point as it came.
  */
+MOCHASPIT_MUST_USE
 mochaspit_point_answer mochaspit_point_fix_cache(mochaspit_point point, size_t sub);
 
 /*
@@ -565,6 +784,7 @@ mochaspit_point_answer mochaspit_point_fix_cache(mochaspit_point point, size_t s
  * Questions: 1 of position and list; 2; then, of two records or more, 8 of the back, 10 and 11 of the back, 10 and 11 of the front.
  * Comes back: the strap. Refused: indices 0 and 0.
  */
+MOCHASPIT_MUST_USE MOCHASPIT_NONNULL
 mochaspit_strap_answer mochaspit_strap_new(const double *col, size_t col_len, size_t n, mochaspit_train_state state);
 
 /*
@@ -574,6 +794,7 @@ mochaspit_strap_answer mochaspit_strap_new(const double *col, size_t col_len, si
  * Questions: 1 of dir, position and list; 2; 10 and 11 of the first search, and of the other where it is made; 8.
  * Comes back: the strap moved, and the force. Refused: the strap as it came, force 0.
  */
+MOCHASPIT_MUST_USE MOCHASPIT_NONNULL
 mochaspit_strap_res mochaspit_strap_calc_res(
     mochaspit_strap strap, const double *col, size_t col_len, size_t n, mochaspit_train_state state, uint32_t dir);
 
@@ -585,6 +806,7 @@ mochaspit_strap_res mochaspit_strap_calc_res(
  * Comes back: the strap and the force of the last position; for count 0 the strap as it came and force 0. Refused: the same strap as it
  * came and force 0.
  */
+MOCHASPIT_MUST_USE MOCHASPIT_NONNULL
 mochaspit_strap_res mochaspit_strap_walk(
     mochaspit_strap strap, const double *col, size_t col_len, size_t n, mochaspit_train_state state, uint32_t dir, double step,
     size_t count);
@@ -594,7 +816,9 @@ mochaspit_strap_res mochaspit_strap_walk(
  * Questions: 1 of the list; 2; 11, the index is in the list.
  * Comes back: the coefficient. Refused: 0.
  */
+MOCHASPIT_MUST_USE MOCHASPIT_NONNULL
 mochaspit_coeff_answer mochaspit_strap_res_coeff_front(mochaspit_strap strap, const double *col, size_t col_len, size_t n);
+MOCHASPIT_MUST_USE MOCHASPIT_NONNULL
 mochaspit_coeff_answer mochaspit_strap_res_coeff_back(mochaspit_strap strap, const double *col, size_t col_len, size_t n);
 
 /*
@@ -602,12 +826,15 @@ mochaspit_coeff_answer mochaspit_strap_res_coeff_back(mochaspit_strap strap, con
  * Questions: 1 of position and list; 2; 11; 8.
  * Comes back: the net value. Refused: 0.
  */
+MOCHASPIT_MUST_USE MOCHASPIT_NONNULL
 mochaspit_net_answer mochaspit_strap_res_net_front(
     mochaspit_strap strap, const double *col, size_t col_len, size_t n, mochaspit_train_state state);
+MOCHASPIT_MUST_USE MOCHASPIT_NONNULL
 mochaspit_net_answer mochaspit_strap_res_net_back(
     mochaspit_strap strap, const double *col, size_t col_len, size_t n, mochaspit_train_state state);
 
 /* The front's index. No questions. */
+MOCHASPIT_MUST_USE
 size_t mochaspit_strap_path_tpc_idx_front(mochaspit_strap strap);
 
 /*
@@ -615,7 +842,213 @@ size_t mochaspit_strap_path_tpc_idx_front(mochaspit_strap strap);
  * Questions: 11, sub is above neither index.
  * Comes back: the strap with both indices less sub. Refused: the strap as it came.
  */
+MOCHASPIT_MUST_USE
 mochaspit_strap_answer mochaspit_strap_fix_cache(mochaspit_strap strap, size_t sub);
+
+/* ---- the calls with structs */
+
+/* A column as a flat call takes it: NULL is an entry that no call sees, since the length is 0 then. */
+static inline double *mochaspit_f64_(double *column)
+{
+    static double none;
+    return column ? column : &none;
+}
+
+static inline uint32_t *mochaspit_u32_(uint32_t *column)
+{
+    static uint32_t none;
+    return column ? column : &none;
+}
+
+static inline const double *mochaspit_const_f64_(const double *column)
+{
+    static const double none = 0;
+    return column ? column : &none;
+}
+
+static inline const uint32_t *mochaspit_const_u32_(const uint32_t *column)
+{
+    static const uint32_t none = 0;
+    return column ? column : &none;
+}
+
+static inline size_t mochaspit_len_(const void *column, size_t len)
+{
+    return column ? len : 0;
+}
+
+/* The arguments of the seven columns, of the ten, and of a list. */
+#define MOCHASPIT_COLUMNS_(c) \
+    mochaspit_f64_((c)->offsets), mochaspit_len_((c)->offsets, (c)->offsets_len), \
+    mochaspit_u32_((c)->numbers), mochaspit_len_((c)->numbers, (c)->numbers_len), \
+    mochaspit_f64_((c)->grades), mochaspit_len_((c)->grades, (c)->grades_len), \
+    mochaspit_f64_((c)->curves), mochaspit_len_((c)->curves, (c)->curves_len), \
+    mochaspit_f64_((c)->speeds), mochaspit_len_((c)->speeds, (c)->speeds_len), \
+    mochaspit_f64_((c)->powers), mochaspit_len_((c)->powers, (c)->powers_len), \
+    mochaspit_u32_((c)->districts), mochaspit_len_((c)->districts, (c)->districts_len)
+#define MOCHASPIT_TABLE_(t) \
+    mochaspit_const_u32_((t)->links), mochaspit_len_((t)->links, (t)->links_len), \
+    mochaspit_const_f64_((t)->lengths), mochaspit_len_((t)->lengths, (t)->lengths_len), \
+    mochaspit_const_u32_((t)->sets), mochaspit_len_((t)->sets, (t)->sets_len), \
+    mochaspit_const_f64_((t)->elevs), mochaspit_len_((t)->elevs, (t)->elevs_len), \
+    mochaspit_const_f64_((t)->headings), mochaspit_len_((t)->headings, (t)->headings_len), \
+    mochaspit_const_f64_((t)->limits), mochaspit_len_((t)->limits, (t)->limits_len), \
+    mochaspit_const_u32_((t)->codes), mochaspit_len_((t)->codes, (t)->codes_len), \
+    mochaspit_const_f64_((t)->values), mochaspit_len_((t)->values, (t)->values_len), \
+    mochaspit_const_f64_((t)->link_powers), mochaspit_len_((t)->link_powers, (t)->link_powers_len), \
+    mochaspit_const_u32_((t)->link_districts), mochaspit_len_((t)->link_districts, (t)->link_districts_len)
+#define MOCHASPIT_LIST_(l) mochaspit_const_f64_((l).col), mochaspit_len_((l).col, (l).col_len), (l).n
+
+static inline mochaspit_path_answer mochaspit_path_new(mochaspit_train train, const mochaspit_columns *columns)
+{
+    return mochaspit_new(train, MOCHASPIT_COLUMNS_(columns));
+}
+
+static inline mochaspit_path_answer mochaspit_path_extend(
+    mochaspit_path_tpc path, mochaspit_train train, const uint32_t *list, size_t list_len, const mochaspit_columns *columns,
+    const mochaspit_table *table)
+{
+    return mochaspit_extend(
+        path, train, mochaspit_const_u32_(list), mochaspit_len_(list, list_len), MOCHASPIT_COLUMNS_(columns), MOCHASPIT_TABLE_(table));
+}
+
+static inline mochaspit_clear_answer mochaspit_path_clear(mochaspit_path_tpc path, double offset, const mochaspit_columns *columns)
+{
+    return mochaspit_clear(path, offset, MOCHASPIT_COLUMNS_(columns));
+}
+
+static inline mochaspit_clear_answer mochaspit_path_clear_each(
+    mochaspit_path_tpc path, const double *xs, size_t xs_len, const mochaspit_columns *columns)
+{
+    return mochaspit_clear_each(path, mochaspit_const_f64_(xs), mochaspit_len_(xs, xs_len), MOCHASPIT_COLUMNS_(columns));
+}
+
+static inline mochaspit_path_answer mochaspit_path_finish(mochaspit_path_tpc path, const mochaspit_columns *columns)
+{
+    return mochaspit_finish(path, MOCHASPIT_COLUMNS_(columns));
+}
+
+static inline mochaspit_path_answer mochaspit_path_recalc_speeds(
+    mochaspit_path_tpc path, mochaspit_train train, const mochaspit_columns *columns, const mochaspit_table *table)
+{
+    return mochaspit_recalc_speeds(path, train, MOCHASPIT_COLUMNS_(columns), MOCHASPIT_TABLE_(table));
+}
+
+static inline mochaspit_path_answer mochaspit_path_reindex(
+    mochaspit_path_tpc path, const uint32_t *renumbered, size_t renumbered_len, const mochaspit_columns *columns)
+{
+    return mochaspit_reindex(
+        path, mochaspit_const_u32_(renumbered), mochaspit_len_(renumbered, renumbered_len), MOCHASPIT_COLUMNS_(columns));
+}
+
+static inline mochaspit_range_answer mochaspit_path_link_grades(mochaspit_path_tpc path, size_t k, const mochaspit_columns *columns)
+{
+    return mochaspit_link_grades(path, k, MOCHASPIT_COLUMNS_(columns));
+}
+
+static inline mochaspit_range_answer mochaspit_path_link_curves(mochaspit_path_tpc path, size_t k, const mochaspit_columns *columns)
+{
+    return mochaspit_link_curves(path, k, MOCHASPIT_COLUMNS_(columns));
+}
+
+static inline mochaspit_posted_answer mochaspit_path_posted_speed(mochaspit_path_tpc path, double offset, const mochaspit_columns *columns)
+{
+    return mochaspit_posted_speed(path, offset, MOCHASPIT_COLUMNS_(columns));
+}
+
+static inline mochaspit_state_answer mochaspit_path_set_link_and_offset(
+    mochaspit_train_state state, mochaspit_path_tpc path, const mochaspit_columns *columns)
+{
+    return mochaspit_set_link_and_offset(state, path, MOCHASPIT_COLUMNS_(columns));
+}
+
+static inline mochaspit_list mochaspit_path_grades(mochaspit_path_tpc path, const mochaspit_columns *columns)
+{
+    mochaspit_list list;
+    list.col = columns->grades;
+    list.col_len = columns->grades_len;
+    list.n = path.grade_count;
+    return list;
+}
+
+static inline mochaspit_list mochaspit_path_curves(mochaspit_path_tpc path, const mochaspit_columns *columns)
+{
+    mochaspit_list list;
+    list.col = columns->curves;
+    list.col_len = columns->curves_len;
+    list.n = path.curve_count;
+    return list;
+}
+
+static inline mochaspit_searched mochaspit_list_calc_idx(mochaspit_list list, double offset, size_t hint, uint32_t dir)
+{
+    return mochaspit_calc_idx(MOCHASPIT_LIST_(list), offset, hint, dir);
+}
+
+static inline mochaspit_point_answer mochaspit_list_point_new(mochaspit_list list, mochaspit_train_state state)
+{
+    return mochaspit_point_new(MOCHASPIT_LIST_(list), state);
+}
+
+static inline mochaspit_point_res mochaspit_list_point_calc_res(
+    mochaspit_point point, mochaspit_list list, mochaspit_train_state state, uint32_t dir)
+{
+    return mochaspit_point_calc_res(point, MOCHASPIT_LIST_(list), state, dir);
+}
+
+static inline mochaspit_coeff_answer mochaspit_list_point_res_coeff_front(mochaspit_point point, mochaspit_list list)
+{
+    return mochaspit_point_res_coeff_front(point, MOCHASPIT_LIST_(list));
+}
+
+static inline mochaspit_net_answer mochaspit_list_point_res_net_front(
+    mochaspit_point point, mochaspit_list list, mochaspit_train_state state)
+{
+    return mochaspit_point_res_net_front(point, MOCHASPIT_LIST_(list), state);
+}
+
+static inline mochaspit_strap_answer mochaspit_list_strap_new(mochaspit_list list, mochaspit_train_state state)
+{
+    return mochaspit_strap_new(MOCHASPIT_LIST_(list), state);
+}
+
+static inline mochaspit_strap_res mochaspit_list_strap_calc_res(
+    mochaspit_strap strap, mochaspit_list list, mochaspit_train_state state, uint32_t dir)
+{
+    return mochaspit_strap_calc_res(strap, MOCHASPIT_LIST_(list), state, dir);
+}
+
+static inline mochaspit_strap_res mochaspit_list_strap_walk(
+    mochaspit_strap strap, mochaspit_list list, mochaspit_train_state state, uint32_t dir, double step, size_t count)
+{
+    return mochaspit_strap_walk(strap, MOCHASPIT_LIST_(list), state, dir, step, count);
+}
+
+static inline mochaspit_coeff_answer mochaspit_list_strap_res_coeff_front(mochaspit_strap strap, mochaspit_list list)
+{
+    return mochaspit_strap_res_coeff_front(strap, MOCHASPIT_LIST_(list));
+}
+
+static inline mochaspit_coeff_answer mochaspit_list_strap_res_coeff_back(mochaspit_strap strap, mochaspit_list list)
+{
+    return mochaspit_strap_res_coeff_back(strap, MOCHASPIT_LIST_(list));
+}
+
+static inline mochaspit_net_answer mochaspit_list_strap_res_net_front(
+    mochaspit_strap strap, mochaspit_list list, mochaspit_train_state state)
+{
+    return mochaspit_strap_res_net_front(strap, MOCHASPIT_LIST_(list), state);
+}
+
+static inline mochaspit_net_answer mochaspit_list_strap_res_net_back(
+    mochaspit_strap strap, mochaspit_list list, mochaspit_train_state state)
+{
+    return mochaspit_strap_res_net_back(strap, MOCHASPIT_LIST_(list), state);
+}
+
+#undef MOCHASPIT_COLUMNS_
+#undef MOCHASPIT_TABLE_
+#undef MOCHASPIT_LIST_
 
 #ifdef __cplusplus
 }

@@ -1,6 +1,6 @@
 //! The path that a train runs on: links joined with their speed limits, grades and curves, by the proved calls of Mochaspit.
 //!
-//! A [`LinkTable`] is built from [`Link`]s. A [`Path`] is made for a [`Train`], joins links of the table, drops those behind the
+//! A [`LinkTable`] is built from [`Link`]s. A [`Path`] is made for a [`Train`] and keeps it, joins links of the table, drops those behind the
 //! train, and posts the speed at each offset. [`Point`] and [`Strap`] take the resistance of grades or curves at a [`Position`].
 //! Every call is done or answers a [`Refusal`], and a refused call has changed nothing.
 //!
@@ -19,20 +19,20 @@
 //!
 //! let train = Train { length: 20.0, speed_max: 30.0, ..Train::default() };
 //! let mut path = Path::new(&train)?;
-//! path.extend(&train, &table, &[LinkIdx(1), LinkIdx(2)])?;
+//! path.extend(&table, &[LinkIdx(1), LinkIdx(2)])?;
 //!
 //! // The limit holds until the train's back is past its end: 20 m into the second link.
-//! assert_eq!(path.posted_speed(50.0), Some(30.0));
-//! assert_eq!(path.posted_speed(110.0), Some(15.0));
-//! assert_eq!(path.posted_speed(120.0), Some(30.0));
+//! assert_eq!(path.posted_speed(50.0), Ok(30.0));
+//! assert_eq!(path.posted_speed(110.0), Ok(15.0));
+//! assert_eq!(path.posted_speed(120.0), Ok(30.0));
 //!
 //! // The first link is dropped, and its limit stays posted.
 //! let dropped = path.clear(110.0)?;
 //! assert_eq!(dropped.links, 1);
-//! assert_eq!(path.posted_speed(110.0), Some(15.0));
+//! assert_eq!(path.posted_speed(110.0), Ok(15.0));
 //!
 //! // There is no link 9: nothing is joined.
-//! let refusal = path.extend(&train, &table, &[LinkIdx(9)]).unwrap_err();
+//! let refusal = path.extend(&table, &[LinkIdx(9)]).unwrap_err();
 //! assert_eq!((refusal.number, refusal.place), (4, 0));
 //! # Ok(())
 //! # }

@@ -31,9 +31,18 @@ pub struct Dropped {
     pub power_limits: usize,
 }
 
-/// The path that a train runs on. It owns its columns, so that no record is changed but by a call, and a refused call changes none.
+/// The path that a train runs on. It owns its columns, so that no record is changed but by a call, and a refused call changes none. It
+/// keeps the train that it was made for, so that no limit is laid for another:
+///
+/// ```compile_fail
+/// # use mochaspit::{LinkIdx, LinkTable, Path, Train};
+/// # let (train, other, table) = (Train::default(), Train::default(), LinkTable::new());
+/// let mut path = Path::new(&train).unwrap();
+/// path.extend(&other, &table, &[LinkIdx(1)]).unwrap(); // no call takes a train
+/// ```
 #[derive(Clone)]
 pub struct Path {
+    train: Train,
     record: sys::PathTpc,
     columns: Columns,
 }
@@ -49,17 +58,21 @@ impl Path {
         let mut columns = Columns::with_room(room);
         let done = columns.new_path(train.record());
         judged(done.answer)?;
-        Ok(Path { record: done.path, columns })
+        Ok(Path { train: *train, record: done.path, columns })
+    }
+
+    /// The train that the path was made for.
+    pub fn train(&self) -> &Train {
+        &self.train
     }
 
     /// Joins these links to the path's end, with their limits, grades, curves and power limits. A limit holds from its start up to its end,
     /// the train's length added unless its set is a head-end set, and is released there.
     ///
-    /// Refused with 1 and 3 to 9; for 4 to 8 the place is the first failing position in the list. The train should be the one that
-    /// the path was made for.
-    pub fn extend(&mut self, train: &Train, table: &LinkTable, links: &[LinkIdx]) -> Result<(), Refusal> {
+    /// Refused with 3 to 9; for 4 to 8 the place is the first failing position in the list.
+    pub fn extend(&mut self, table: &LinkTable, links: &[LinkIdx]) -> Result<(), Refusal> {
         let list: Vec<u32> = links.iter().map(|link| link.0).collect();
-        let done = self.columns.extend(self.record, train.record(), &list, table);
+        let done = self.columns.extend(self.record, self.train.record(), &list, table);
         self.take(done)
     }
 
@@ -86,9 +99,9 @@ impl Path {
         self.take(done)
     }
 
-    /// Lays the limits of the links still on the path anew. Refused with 1, 4 and 6 to 9; the place is an index of `link_points`.
-    pub fn recalc_speeds(&mut self, train: &Train, table: &LinkTable) -> Result<(), Refusal> {
-        let done = self.columns.recalc_speeds(self.record, train.record(), table);
+    /// Lays the limits of the links still on the path anew. Refused with 4 and 6 to 9; the place is an index of `link_points`.
+    pub fn recalc_speeds(&mut self, table: &LinkTable) -> Result<(), Refusal> {
+        let done = self.columns.recalc_speeds(self.record, self.train.record(), table);
         self.take(done)
     }
 
@@ -153,11 +166,12 @@ impl Path {
         self.record.is_finished
     }
 
-    /// The speed posted at an offset: that of the last speed point at or before it. None where the call is refused: with 1, the offset
-    /// is not finite, or with 10, it lies before the path's beginning.
-    pub fn posted_speed(&self, offset: f64) -> Option<f64> {
+    /// The speed posted at an offset, by the proved call: that of the last speed point at or before it. Refused with 1, the offset is not
+    /// finite, and with 10, it lies before the path's beginning.
+    pub fn posted_speed(&self, offset: f64) -> Result<f64, Refusal> {
         let found = self.columns.posted_speed(self.record, offset);
-        judged(found.answer).ok().map(|()| found.speed)
+        judged(found.answer)?;
+        Ok(found.speed)
     }
 
     /// The record and the columns, for calls that only read a path.
@@ -186,9 +200,10 @@ impl Path {
 }
 
 impl fmt::Debug for Path {
-    /// The records, without the room past them.
+    /// Train and records, without the room past them.
     fn fmt(&self, f: &mut fmt::Formatter<'_>) -> fmt::Result {
         f.debug_struct("Path")
+            .field("train", &self.train)
             .field("link_points", &self.link_points().collect::<Vec<_>>())
             .field("grades", &self.grades())
             .field("curves", &self.curves())
@@ -200,9 +215,10 @@ impl fmt::Debug for Path {
 }
 
 impl PartialEq for Path {
-    /// Equal records, whatever the room.
+    /// Equal trains and equal records, whatever the room.
     fn eq(&self, other: &Path) -> bool {
-        self.record == other.record
+        self.train == other.train
+            && self.record == other.record
             && self.link_points().eq(other.link_points())
             && self.grades() == other.grades()
             && self.curves() == other.curves()

@@ -8,27 +8,28 @@ use std::fmt;
 pub struct Refusal {
     /// The number of the question, 1 to 12.
     pub number: u32,
-    /// For 4 to 8 the first failing position in the list of links, or among the link points; otherwise 0.
+    /// For 4 to 8 the first failing position in the list of links, or among the link points; for a list of trims the position of the one
+    /// that is refused; otherwise 0.
     pub place: usize,
 }
 
 impl Refusal {
-    /// The refusal in a surveyor's words, without number and place.
+    /// The refusal in a surveyor's words, those of `mochaspit_text` in include/mochaspit.h, without number and place.
     pub fn reason(&self) -> &'static str {
         match self.number {
-            1 => "a number that was handed in is not finite, a train has no length, its top speed is below 0, or a code is unknown",
-            2 => "the path does not hold together, or the list to be searched is empty",
-            3 => "the path is finished: nothing can be joined to it",
-            4 => "a link number is 0 or not in the table",
-            5 => "a link does not follow the link before it",
+            1 => "a number is not finite, a train's length not above 0 or its top speed below 0, or a code is unknown",
+            2 => "the path's record and columns do not belong together, or a list is empty or longer than its column",
+            3 => "the path is finished: nothing can be joined to it, and it cannot be finished again",
+            4 => "a link number is 0 or not in the table, or a link gets no new number or the number 0",
+            5 => "a link does not follow the one before it, or its two neighbours on one side are the same link",
             6 => "a link of the table is not well formed",
             7 => "a link has no speed set for this train",
-            8 => "a sum, product or quotient is too large, or a link's end is not beyond its beginning",
-            9 => "the records do not fit in the columns",
-            10 => "the offset lies outside the path or the list, or there is no such link",
-            11 => "the index to start from is not in the list, or fewer records lie before an index than are to be taken off",
+            8 => "a result is too large or no number, or a link's end is not beyond its beginning",
+            9 => "the records do not fit in the columns or within their bounds",
+            10 => "an offset lies outside the path or the list, or the path has no such link",
+            11 => "no search may start from the index, no record is at it, or fewer records lie before it than are taken off",
             12 => "the path has no link to drop",
-            _ => "no refusal has this number",
+            _ => "no answer has this number",
         }
     }
 }
@@ -36,7 +37,7 @@ impl Refusal {
 impl fmt::Display for Refusal {
     fn fmt(&self, f: &mut fmt::Formatter<'_>) -> fmt::Result {
         write!(f, "refused with {}", self.number)?;
-        if (4..=8).contains(&self.number) {
+        if self.place > 0 || (4..=8).contains(&self.number) {
             write!(f, " at place {}", self.place)?;
         }
         write!(f, ": {}", self.reason())

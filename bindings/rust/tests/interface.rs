@@ -59,6 +59,29 @@ fn unknown_train_types() {
     }
 }
 
+/// A train that question 1 refuses, given to a path that was made for another.
+#[test]
+fn trains_that_are_not_finite() {
+    for x in [f64::NAN, f64::INFINITY, f64::NEG_INFINITY] {
+        let t = train();
+        let numbers = [
+            sys::Train { length: x, ..t },
+            sys::Train { speed_max: x, ..t },
+            sys::Train { towed_mass_static: x, ..t },
+            sys::Train { mass_per_brake: x, ..t },
+            sys::Train { curve_coeff_0: x, ..t },
+            sys::Train { curve_coeff_1: x, ..t },
+            sys::Train { curve_coeff_2: x, ..t },
+        ];
+        let others = [sys::Train { length: 0.0, ..t }, sys::Train { length: -1.0, ..t }, sys::Train { speed_max: -1.0, ..t }];
+        for bad in numbers.into_iter().chain(others) {
+            refused(Raw::room(10), 1, 0, |r| r.new_path(bad));
+            refused(path(), 1, 0, |r| r.extend(bad, &[2], &table()));
+            refused(path(), 1, 0, |r| r.recalc_speeds(bad, &table()));
+        }
+    }
+}
+
 #[test]
 fn unknown_directions() {
     let list = [0.0, 0.5, 0.0, 100.0, 0.0, 50.0];

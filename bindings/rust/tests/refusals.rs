@@ -33,12 +33,9 @@ fn bad_trains() -> Vec<Train> {
 
 #[test]
 fn number_1_numbers_that_are_not_finite() {
-    let table = two_links(&[(50.0, 200.0, 20.0)]);
-    let mut path = path_of(&table, &[1]);
+    let mut path = path_of(&two_links(&[(50.0, 200.0, 20.0)]), &[1]);
     for bad in bad_trains() {
         assert_eq!(Path::new(&bad).unwrap_err(), Refusal { number: 1, place: 0 }, "{bad:?}");
-        refused(&mut path, 1, 0, |p| p.extend(&bad, &table, &idxs(&[2])));
-        refused(&mut path, 1, 0, |p| p.recalc_speeds(&bad, &table));
     }
     refused(&mut path, 1, 0, |p| p.clear(f64::NAN));
     refused(&mut path, 1, 0, |p| p.clear(f64::INFINITY));
@@ -65,9 +62,9 @@ fn number_3_a_finished_path() {
     path.finish().unwrap();
     assert!(path.is_finished());
     refused(&mut path, 3, 0, |p| p.finish());
-    refused(&mut path, 3, 0, |p| p.extend(&train(), &table, &idxs(&[2])));
-    refused(&mut path, 3, 0, |p| p.extend(&train(), &table, &[]));
-    path.recalc_speeds(&train(), &table).unwrap();
+    refused(&mut path, 3, 0, |p| p.extend(&table, &idxs(&[2])));
+    refused(&mut path, 3, 0, |p| p.extend(&table, &[]));
+    path.recalc_speeds(&table).unwrap();
     path.reindex(&[0, 5]).unwrap();
 }
 
@@ -75,14 +72,14 @@ fn number_3_a_finished_path() {
 fn number_4_links_that_are_not_there() {
     let table = two_links(&[]);
     let mut path = Path::new(&train()).unwrap();
-    refused(&mut path, 4, 0, |p| p.extend(&train(), &table, &idxs(&[0])));
-    refused(&mut path, 4, 2, |p| p.extend(&train(), &table, &idxs(&[1, 2, 3])));
-    refused(&mut path, 4, 1, |p| p.extend(&train(), &table, &idxs(&[1, u32::MAX])));
-    refused(&mut path, 4, 0, |p| p.extend(&train(), &LinkTable::new(), &idxs(&[1])));
-    path.extend(&train(), &table, &idxs(&[1, 2])).unwrap();
+    refused(&mut path, 4, 0, |p| p.extend(&table, &idxs(&[0])));
+    refused(&mut path, 4, 2, |p| p.extend(&table, &idxs(&[1, 2, 3])));
+    refused(&mut path, 4, 1, |p| p.extend(&table, &idxs(&[1, u32::MAX])));
+    refused(&mut path, 4, 0, |p| p.extend(&LinkTable::new(), &idxs(&[1])));
+    path.extend(&table, &idxs(&[1, 2])).unwrap();
     refused(&mut path, 4, 1, |p| p.reindex(&[0, 5]));
     refused(&mut path, 4, 0, |p| p.reindex(&[9, 0, 6]));
-    refused(&mut path, 4, 1, |p| p.recalc_speeds(&train(), &LinkTable::from_iter([&link(100.0, 0, &[])])));
+    refused(&mut path, 4, 1, |p| p.recalc_speeds(&LinkTable::from_iter([&link(100.0, 0, &[])])));
 }
 
 #[test]
@@ -93,11 +90,11 @@ fn number_5_links_that_do_not_follow() {
     let table = LinkTable::from_iter([&link(100.0, 0, &[]), &link(150.0, 9, &[]), &alike, &next_alike, &other]);
     let mut path = Path::new(&train()).unwrap();
     for wrong in [1, 2, 3, 4] {
-        refused(&mut path, 5, 1, |p| p.extend(&train(), &table, &idxs(&[1, wrong])));
+        refused(&mut path, 5, 1, |p| p.extend(&table, &idxs(&[1, wrong])));
     }
-    path.extend(&train(), &table, &idxs(&[1])).unwrap();
-    refused(&mut path, 5, 0, |p| p.extend(&train(), &table, &idxs(&[2])));
-    path.extend(&train(), &table, &idxs(&[5])).unwrap();
+    path.extend(&table, &idxs(&[1])).unwrap();
+    refused(&mut path, 5, 0, |p| p.extend(&table, &idxs(&[2])));
+    path.extend(&table, &idxs(&[5])).unwrap();
 }
 
 /// Links that question 6 refuses.
@@ -139,10 +136,10 @@ fn number_6_links_that_are_not_well_formed() {
         let mut path = Path::new(&train()).unwrap();
         let behind = Link { prev: LinkIdx(1), ..bad };
         let table = LinkTable::from_iter([&first, &behind]);
-        refused(&mut path, 6, 0, |p| p.extend(&train(), &table, &idxs(&[2])));
-        refused(&mut path, 6, 1, |p| p.extend(&train(), &table, &idxs(&[1, 2])));
-        path.extend(&train(), &two_links(&[]), &idxs(&[1, 2])).unwrap();
-        refused(&mut path, 6, 1, |p| p.recalc_speeds(&train(), &table));
+        refused(&mut path, 6, 0, |p| p.extend(&table, &idxs(&[2])));
+        refused(&mut path, 6, 1, |p| p.extend(&table, &idxs(&[1, 2])));
+        path.extend(&two_links(&[]), &idxs(&[1, 2])).unwrap();
+        refused(&mut path, 6, 1, |p| p.recalc_speeds(&table));
     }
 }
 
@@ -152,10 +149,12 @@ fn number_7_no_set_for_the_train() {
     let commuters = Link { speed_sets: sets, ..link(150.0, 1, &[]) };
     let table = LinkTable::from_iter([&link(100.0, 0, &[]), &commuters]);
     let mut path = Path::new(&train()).unwrap();
-    refused(&mut path, 7, 1, |p| p.extend(&train(), &table, &idxs(&[1, 2])));
-    let commuter = Train { train_type: TrainType::Commuter, ..train() };
-    path.extend(&commuter, &table, &idxs(&[1, 2])).unwrap();
-    refused(&mut path, 7, 1, |p| p.recalc_speeds(&train(), &table));
+    refused(&mut path, 7, 1, |p| p.extend(&table, &idxs(&[1, 2])));
+    path.extend(&two_links(&[]), &idxs(&[1, 2])).unwrap();
+    refused(&mut path, 7, 1, |p| p.recalc_speeds(&table));
+    let mut commuter = Path::new(&Train { train_type: TrainType::Commuter, ..train() }).unwrap();
+    commuter.extend(&table, &idxs(&[1, 2])).unwrap();
+    commuter.recalc_speeds(&table).unwrap();
 }
 
 #[test]
@@ -164,9 +163,9 @@ fn number_8_sums_that_are_too_large() {
     let high = Link { elevations: steep, ..link(10.0, 1, &[]) };
     let table = LinkTable::from_iter([&link(1e308, 1, &[]), &link(1.0, 1, &[]), &high]);
     let mut path = Path::new(&train()).unwrap();
-    refused(&mut path, 8, 1, |p| p.extend(&train(), &table, &idxs(&[1, 1])));
-    refused(&mut path, 8, 1, |p| p.extend(&train(), &table, &idxs(&[1, 2])));
-    refused(&mut path, 8, 0, |p| p.extend(&train(), &table, &idxs(&[3])));
+    refused(&mut path, 8, 1, |p| p.extend(&table, &idxs(&[1, 1])));
+    refused(&mut path, 8, 1, |p| p.extend(&table, &idxs(&[1, 2])));
+    refused(&mut path, 8, 0, |p| p.extend(&table, &idxs(&[3])));
     let records = Records::from_iter([Coeff { res_coeff: 1e308, ..Coeff::default() }, Coeff { offset: 100.0, ..Coeff::default() }]);
     let position = Position { offset: 50.0, length: 2.0, weight_static: 1e308, ..Position::default() };
     let mut point = Point { idx: 0 };
@@ -188,10 +187,10 @@ fn number_9_records_that_do_not_fit() {
     ];
     for room in short {
         let mut path = Path::with_room(&train(), room).unwrap();
-        refused(&mut path, 9, 0, |p| p.extend(&train(), &table, &idxs(&[1])));
+        refused(&mut path, 9, 0, |p| p.extend(&table, &idxs(&[1])));
     }
     let mut path = Path::with_room(&train(), enough).unwrap();
-    path.extend(&train(), &table, &idxs(&[1])).unwrap();
+    path.extend(&table, &idxs(&[1])).unwrap();
     refused(&mut path, 9, 0, |p| p.finish());
     let none = Room { speed_points: 0, ..enough };
     assert_eq!(Path::with_room(&train(), none).unwrap_err(), Refusal { number: 9, place: 0 });
@@ -202,11 +201,11 @@ fn number_9_at_the_bounds() {
     let again = Link { prev: LinkIdx(1), ..link(10.0, 1, &[]) };
     let table = LinkTable::from_iter([&again]);
     let mut path = Path::with_room(&train(), Room { link_points: usize::MAX, ..Room::BOUNDS }).unwrap();
-    path.extend(&train(), &table, &[LinkIdx(1); 1024]).unwrap();
+    path.extend(&table, &[LinkIdx(1); 1024]).unwrap();
     assert_eq!(path.link_points().len(), 1025);
-    refused(&mut path, 9, 0, |p| p.extend(&train(), &table, &idxs(&[1])));
+    refused(&mut path, 9, 0, |p| p.extend(&table, &idxs(&[1])));
     path.clear(15.0).unwrap();
-    path.extend(&train(), &table, &idxs(&[1])).unwrap();
+    path.extend(&table, &idxs(&[1])).unwrap();
 }
 
 #[test]
@@ -248,7 +247,7 @@ fn number_12_no_link_to_drop() {
     let mut path = Path::new(&train()).unwrap();
     refused(&mut path, 12, 0, |p| p.clear(0.0));
     refused(&mut path, 10, 0, |p| p.clear(1.0));
-    path.extend(&train(), &two_links(&[]), &idxs(&[1])).unwrap();
+    path.extend(&two_links(&[]), &idxs(&[1])).unwrap();
     assert!(path.clear(0.0).is_ok());
 }
 
@@ -257,8 +256,8 @@ fn the_first_question_decides() {
     let unset = Link { speed_sets: SpeedSets::ByType(TypeSets::new()), ..link(100.0, 0, &[]) };
     let table = LinkTable::from_iter([&unset, &link(-1.0, 1, &[])]);
     let mut path = Path::new(&train()).unwrap();
-    refused(&mut path, 4, 1, |p| p.extend(&train(), &table, &idxs(&[1, 0])));
-    refused(&mut path, 5, 1, |p| p.extend(&train(), &table, &idxs(&[1, 1])));
-    refused(&mut path, 6, 1, |p| p.extend(&train(), &table, &idxs(&[1, 2])));
-    refused(&mut path, 7, 0, |p| p.extend(&train(), &table, &idxs(&[1])));
+    refused(&mut path, 4, 1, |p| p.extend(&table, &idxs(&[1, 0])));
+    refused(&mut path, 5, 1, |p| p.extend(&table, &idxs(&[1, 1])));
+    refused(&mut path, 6, 1, |p| p.extend(&table, &idxs(&[1, 2])));
+    refused(&mut path, 7, 0, |p| p.extend(&table, &idxs(&[1])));
 }

@@ -64,10 +64,10 @@ fn a_limit_between_two_points_ends_at_its_end() {
     let points = [(0.0, 30.0), (20.0, 15.0), (40.0, 30.0), (100.0, 20.0), (120.0, 5.0), (140.0, 20.0), (200.0, 30.0)];
     assert_eq!(speeds(&path), points);
     for (offset, speed) in [(19.9, 30.0), (20.0, 15.0), (39.9, 15.0), (40.0, 30.0), (99.9, 30.0), (100.0, 20.0)] {
-        assert_eq!(path.posted_speed(offset), Some(speed));
+        assert_eq!(path.posted_speed(offset), Ok(speed));
     }
     for (offset, speed) in [(119.9, 20.0), (120.0, 5.0), (139.9, 5.0), (140.0, 20.0), (199.9, 20.0), (200.0, 30.0)] {
-        assert_eq!(path.posted_speed(offset), Some(speed));
+        assert_eq!(path.posted_speed(offset), Ok(speed));
     }
 }
 
@@ -153,19 +153,20 @@ fn a_tail_is_added_unless_head_end() {
     }
     let path = path_of(&LinkTable::from_iter([&first]), &[1]);
     assert_eq!(speeds(&path), [(0.0, 30.0), (20.0, 15.0), (90.0, 30.0)]);
-    assert_eq!(path.posted_speed(-0.5), None);
-    assert_eq!(path.posted_speed(f64::NAN), None);
-    assert_eq!(path.posted_speed(20.0), Some(15.0));
-    assert_eq!(path.posted_speed(89.9), Some(15.0));
-    assert_eq!(path.posted_speed(f64::MAX), Some(train().speed_max));
-    assert_eq!(path.posted_speed(f64::INFINITY), None);
+    assert_eq!(path.posted_speed(-0.5), no(10, 0));
+    assert_eq!(path.posted_speed(f64::NAN), no(1, 0));
+    assert_eq!(path.posted_speed(20.0), Ok(15.0));
+    assert_eq!(path.posted_speed(89.9), Ok(15.0));
+    assert_eq!(path.posted_speed(f64::MAX), Ok(train().speed_max));
+    assert_eq!(path.posted_speed(f64::INFINITY), no(1, 0));
 }
 
 #[test]
 fn a_refusal_is_an_error_with_words() {
     let e: Box<dyn std::error::Error> = Box::new(Refusal { number: 4, place: 1 });
-    assert_eq!(e.to_string(), "refused with 4 at place 1: a link number is 0 or not in the table");
+    assert_eq!(e.to_string(), "refused with 4 at place 1: a link number is 0 or not in the table, or a link gets no new number or the number 0");
     assert_eq!(Refusal { number: 12, place: 0 }.to_string(), "refused with 12: the path has no link to drop");
+    assert_eq!(Refusal { number: 12, place: 3 }.to_string(), "refused with 12 at place 3: the path has no link to drop");
     let mut reasons: Vec<_> = (1..=12).map(|number| Refusal { number, place: 0 }.reason()).collect();
     reasons.sort_unstable();
     reasons.dedup();

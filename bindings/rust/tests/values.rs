@@ -108,9 +108,9 @@ fn a_path_without_links_and_a_finished_one() {
     assert_eq!((path.grades(), path.curves()), (&[Coeff::default()][..], &[Coeff::default()][..]));
     assert_eq!(speeds(&path), [(0.0, 30.0)]);
     assert_eq!((path.power_limits().len(), path.is_finished()), (0, false));
-    path.extend(&train(), &survey(), &[]).unwrap();
+    path.extend(&survey(), &[]).unwrap();
     assert_eq!(path, Path::new(&train()).unwrap());
-    path.extend(&train(), &survey(), &idxs(&[1])).unwrap();
+    path.extend(&survey(), &idxs(&[1])).unwrap();
     path.finish().unwrap();
     assert_eq!(path.grades().last(), Some(&coeff(f64::INFINITY, 0.0, 9.0)));
     assert_eq!((path.grades().len(), path.curves().len(), path.is_finished()), (4, 4, true));
@@ -130,18 +130,37 @@ fn other_numbers_for_the_links() {
 #[test]
 fn speeds_anew_from_another_table() {
     let mut path = path_of(&two_links(&[(50.0, 200.0, 20.0)]), &[1, 2]);
-    path.recalc_speeds(&train(), &two_links(&[(10.0, 30.0, 12.0)])).unwrap();
+    path.recalc_speeds(&two_links(&[(10.0, 30.0, 12.0)])).unwrap();
     assert_eq!(speeds(&path), [(0.0, 30.0), (10.0, 12.0), (30.0, 30.0)]);
     path.clear(120.0).unwrap();
-    path.recalc_speeds(&train(), &two_links(&[(50.0, 200.0, 20.0)])).unwrap();
+    path.recalc_speeds(&two_links(&[(50.0, 200.0, 20.0)])).unwrap();
     assert_eq!(speeds(&path), [(100.0, 30.0)]);
+}
+
+/// The tail of a limit is the length of the train that the path was made for, whatever is done with the caller's own record.
+#[test]
+fn a_path_keeps_its_train() {
+    let mut first = link(100.0, 0, &[(20.0, 40.0, 15.0)]);
+    if let SpeedSets::Single(set) = &mut first.speed_sets {
+        set.head_end = false;
+    }
+    let table = LinkTable::from_iter([&first]);
+    let mut own = train();
+    let mut path = Path::new(&own).unwrap();
+    own.length = 5.0;
+    path.extend(&table, &idxs(&[1])).unwrap();
+    assert_eq!(speeds(&path), [(0.0, 30.0), (20.0, 15.0), (90.0, 30.0)]);
+    path.recalc_speeds(&table).unwrap();
+    assert_eq!(speeds(&path), [(0.0, 30.0), (20.0, 15.0), (90.0, 30.0)]);
+    assert_eq!(path.train(), &train());
+    assert_ne!(Path::new(&own).unwrap(), Path::new(&train()).unwrap());
 }
 
 /// The speed posted at 15 on a link with these sets.
 fn posted(train: &Train, sets: SpeedSets) -> f64 {
     let table = LinkTable::from_iter([&Link { speed_sets: sets, ..link(100.0, 0, &[]) }]);
     let mut path = Path::new(train).unwrap();
-    path.extend(train, &table, &idxs(&[1])).unwrap();
+    path.extend(&table, &idxs(&[1])).unwrap();
     path.posted_speed(15.0).unwrap()
 }
 

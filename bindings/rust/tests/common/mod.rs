@@ -39,7 +39,7 @@ pub fn two_links(limits: &[(f64, f64, f64)]) -> LinkTable {
 /// A path with the links listed.
 pub fn path_of(table: &LinkTable, links: &[u32]) -> Path {
     let mut path = Path::new(&train()).unwrap();
-    path.extend(&train(), table, &idxs(links)).unwrap();
+    path.extend(table, &idxs(links)).unwrap();
     path
 }
 
