@@ -15,6 +15,7 @@ pub mod random_table;
 pub mod random_train;
 pub mod report;
 pub mod rng;
+pub mod routes;
 pub mod scenarios;
 pub mod sound_path;
 pub mod table;

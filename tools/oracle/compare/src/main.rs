@@ -1,12 +1,14 @@
 //! `compare SEED COUNT [KIND]`: COUNT scenarios of each kind, or of one, from a seed on. `compare show KIND SEED`: one in full.
+//! `compare SEED COUNT routes`: COUNT route files through the planner's program, beside the original's own run of their calls.
 //! `compare vectors SEED COUNT FOLDER`: the vectors that crates/replay replays, from the original's answers.
 use compare::judge::{Run, Tally};
 use compare::report::{self, Differences, Progress};
+use compare::routes;
 use compare::scenarios::{self, KINDS};
 use compare::vectors;
 
 const USAGE: &str = "usage: compare SEED COUNT [KIND] | compare show KIND SEED | compare vectors SEED COUNT FOLDER
-kinds: paths, long, lists, positions, damaged, exact
+kinds: paths, long, lists, positions, damaged, exact; and by its name alone: routes, with the planner's program that MOCHASPIT_PLAN names
 CMP_SPOIL=N: every N-th call one bit of the port's answer is flipped, to see that the comparison notices";
 
 fn usage() -> ! {
@@ -16,6 +18,10 @@ fn usage() -> ! {
 
 fn number(a: &str) -> u64 {
     a.parse().unwrap_or_else(|_| usage())
+}
+
+fn spoil() -> u64 {
+    std::env::var("CMP_SPOIL").map_or(0, |x| number(&x))
 }
 
 fn kind(a: &str) -> usize {
@@ -39,6 +45,14 @@ fn run(first: u64, count: u64, kinds: &[usize], tally: &mut Tally) -> Difference
     all
 }
 
+/// Runs COUNT route files through the planner's program: the exit status.
+fn run_routes(first: u64, count: u64) -> i32 {
+    routes::run(first, count, spoil()).unwrap_or_else(|e| {
+        eprintln!("the planner's program: {e}");
+        2
+    })
+}
+
 /// Writes the calls and the original's answers to FOLDER/stdin and FOLDER/stdout, and says how many there are.
 fn write_vectors(seed: u64, count: u64, folder: &str) -> std::io::Result<()> {
     let v = vectors::vectors(seed, count, &format!("compare vectors {seed} {count} {folder}"));
@@ -58,6 +72,11 @@ fn main() {
     let a: Vec<String> = std::env::args().skip(1).collect();
     let a: Vec<&str> = a.iter().map(String::as_str).collect();
     let (first, count, kinds) = match a[..] {
+        ["show", "routes", seed] => {
+            print!("{}", routes::show(number(seed)));
+            return;
+        }
+        [first, count, "routes"] => std::process::exit(run_routes(number(first), number(count))),
         ["show", k, seed] => {
             print!("{}", report::show(kind(k), number(seed)));
             return;
@@ -73,7 +92,7 @@ fn main() {
         [first, count, k] => (number(first), number(count), vec![kind(k)]),
         _ => usage(),
     };
-    let mut tally = Tally { spoil: std::env::var("CMP_SPOIL").map_or(0, |x| number(&x)), ..Default::default() };
+    let mut tally = Tally { spoil: spoil(), ..Default::default() };
     let all = run(first, count, &kinds, &mut tally);
     report::calls(&tally);
     if tally.spoil != 0 {
