@@ -8,7 +8,7 @@ use si::{Length, Mass, Ratio, Velocity};
 
 // A train with its type as a number.
 #[repr(C)]
-#[derive(Drop)]
+#[derive(Clone, Copy)]
 pub struct Train {
     pub length: Length,
     pub speed_max: Velocity,
@@ -22,7 +22,7 @@ pub struct Train {
 }
 
 // A direction, or word that its code is unknown.
-#[derive(Drop)]
+#[derive(Clone, Copy)]
 pub enum DirCode {
     Known(Dir),
     Unknown,

@@ -7,7 +7,7 @@ ghost use Rattle.decimal.specs.Decimal as spec;
 use crate::digits::is_digit;
 
 // A number read, or word that the text is none.
-#[derive(Drop)]
+#[derive(Clone, Copy)]
 pub enum Reading {
     Is(f64),
     Not,
@@ -15,7 +15,7 @@ pub enum Reading {
 
 // What the bytes read so far make: their digits as one whole number, the power of ten that it is to be divided by, whether a point and whether a digit
 // was among them, and whether they can still be a number.
-#[derive(Drop)]
+#[derive(Clone, Copy)]
 pub struct Digits {
     pub whole: u64,
     pub scale: u64,

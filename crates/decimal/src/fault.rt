@@ -10,7 +10,7 @@ use crate::number::{has_mark, read_number};
 use crate::whole::{Whole, read_whole};
 
 // Why a text is no number.
-#[derive(Drop)]
+#[derive(Clone, Copy)]
 pub enum Fault {
     Readable, // it is one
     Missing, // no byte
@@ -25,7 +25,7 @@ pub enum Fault {
 }
 
 // Why a text is no whole number.
-#[derive(Drop)]
+#[derive(Clone, Copy)]
 pub enum WholeFault {
     Readable, // it is one
     Missing, // no byte

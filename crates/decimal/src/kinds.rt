@@ -5,7 +5,7 @@ ghost use Rattle.decimal.specs.Kinds as spec;
 use crate::digits::is_digit;
 
 // A comma, a point, an e or E, and a byte that is none of a digit, a point, a sign, e and E.
-#[derive(Drop)]
+#[derive(Clone, Copy)]
 pub enum Kind {
     Comma,
     Point,

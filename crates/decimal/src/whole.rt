@@ -5,7 +5,7 @@ ghost use Rattle.decimal.specs.Number as spec;
 use crate::digits::{all_digits, digits_number};
 
 // A whole number read, or word that the text is none.
-#[derive(Drop)]
+#[derive(Clone, Copy)]
 pub enum Whole {
     Is(u32),
     Not,

@@ -7,7 +7,7 @@ ghost use Rattle.link.specs.Questions.{limit_formed};
 use si::{Length, Power, Velocity};
 use speed::speed_limit::SpeedLimit;
 
-#[derive(Drop)]
+#[derive(Clone, Copy)]
 pub struct CatPowerLimit {
     pub offset_start: Length,
     pub offset_end: Length,

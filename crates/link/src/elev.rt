@@ -9,13 +9,13 @@ ghost use Rattle.link.specs.Questions.{sample_finite, rise_to, samples_formed};
 use column::Two;
 use si::{Angle, Length};
 
-#[derive(Drop)]
+#[derive(Clone, Copy)]
 pub struct Elev {
     pub offset: Length,
     pub elev: Length,
 }
 
-#[derive(Drop)]
+#[derive(Clone, Copy)]
 pub struct Heading {
     pub offset: Length,
     pub heading: Angle,

@@ -10,14 +10,14 @@ use crate::speed_set::{set_at, set_formed};
 use si::Length;
 
 // Whether each position of a list passes, or the first that does not.
-#[derive(Drop)]
+#[derive(Clone, Copy)]
 pub enum Judged {
     Yes,
     NoAt(usize),
 }
 
 // The numbers of a link: its own and its neighbours', and first and count of what it has in the pools.
-#[derive(Drop)]
+#[derive(Clone, Copy)]
 pub struct LinkNumbers {
     pub idx_curr: u32,
     pub idx_next: u32,

@@ -6,14 +6,14 @@ ghost use Rattle.link.specs.Table.{condition_at};
 use crate::train_params::TrainParams;
 
 // A condition carries its limit value with its kind.
-#[derive(Drop)]
+#[derive(Clone, Copy)]
 pub enum SpeedParam {
     MassTotal(f64),
     MassPerBrake(f64),
     AxleCount(f64),
 }
 
-#[derive(Drop)]
+#[derive(Clone, Copy)]
 pub enum ParamFound {
     Known(SpeedParam),
     Unknown,

@@ -8,7 +8,7 @@ ghost use Rattle.link.specs.Table.{condition_at};
 use crate::speed_param::condition_holds;
 use si::{Length, Mass, Ratio, Velocity};
 
-#[derive(Drop)]
+#[derive(Clone, Copy)]
 pub enum TrainType {
     None,
     Freight,
@@ -19,7 +19,7 @@ pub enum TrainType {
     Commuter,
 }
 
-#[derive(Drop)]
+#[derive(Clone, Copy)]
 pub struct TrainParams {
     pub length: Length,
     pub speed_max: Velocity,

@@ -1,7 +1,7 @@
 // The direction of a search, and its answer.
 
 // Unk searches as Fwd does.
-#[derive(Drop)]
+#[derive(Clone, Copy)]
 pub enum Dir {
     Unk,
     Fwd,
@@ -9,7 +9,7 @@ pub enum Dir {
 }
 
 // The index found, or the question that was answered with no: 1, 2, 10 or 11.
-#[derive(Drop)]
+#[derive(Clone, Copy)]
 pub enum Found {
     At(usize),
     NotFinite,

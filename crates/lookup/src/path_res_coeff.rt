@@ -6,7 +6,7 @@ ghost use Rattle.lookup.specs.Coeff.{triple, coeffs, coeff_at, offset_at, res_va
 use column::Three;
 use si::{Length, Ratio};
 
-#[derive(Drop)]
+#[derive(Clone, Copy)]
 pub struct PathResCoeff {
     pub offset: Length,
     pub res_coeff: Ratio,

@@ -9,7 +9,7 @@ use show::{put, put_count};
 pub type Noted = [u32; 12];
 
 // The line that is looked at, the length of its link, and which sets the link has so far.
-#[derive(Drop)]
+#[derive(Clone, Copy)]
 struct Near {
     line: u32,
     length: f64,

@@ -6,7 +6,7 @@ ghost use Rattle.path.specs.Sound.{totals, count_of};
 use si::Length;
 
 #[repr(C)]
-#[derive(Drop)]
+#[derive(Clone, Copy)]
 pub struct LinkPoint {
     pub offset: Length,
     pub grade_count: usize,

@@ -1,6 +1,6 @@
 // The path's record: how many records its columns hold, and whether it is finished.
 #[repr(C)]
-#[derive(Drop)]
+#[derive(Clone, Copy)]
 pub struct PathTpc {
     pub link_count: usize,
     pub grade_count: usize,
@@ -12,7 +12,7 @@ pub struct PathTpc {
 
 // Done is 0, place 0; otherwise the number of the question answered with no, and its place.
 #[repr(C)]
-#[derive(Drop)]
+#[derive(Clone, Copy)]
 pub struct Answer {
     pub number: u32,
     pub place: usize,
@@ -20,7 +20,7 @@ pub struct Answer {
 
 // What a call that may change a path answers, and the path's record after it.
 #[repr(C)]
-#[derive(Drop)]
+#[derive(Clone, Copy)]
 pub struct PathAnswer {
     pub answer: Answer,
     pub path: PathTpc,

@@ -14,7 +14,7 @@ use speed::clear::clear_points;
 
 // What `clear` answers: the path's record, and the counts of the links that went.
 #[repr(C)]
-#[derive(Drop)]
+#[derive(Clone, Copy)]
 pub struct ClearAnswer {
     pub outcome: PathAnswer,
     pub dropped: LinkPoint,

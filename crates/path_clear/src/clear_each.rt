@@ -12,7 +12,7 @@ use path::link_point::{LinkPoint, add_counts};
 use path::path_tpc::{Answer, PathAnswer, PathTpc};
 
 // How far the trims of a list get: so many link points go, where none is refused; and the answer.
-#[derive(Drop)]
+#[derive(Clone, Copy)]
 struct Progress {
     gone: usize,
     answer: Answer,

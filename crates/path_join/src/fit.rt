@@ -17,7 +17,7 @@ use path_speeds::add_speeds::link_limit_count;
 use path_stretches::walk::stretch_count;
 
 // How many grades, curves and power limits links have.
-#[derive(Drop)]
+#[derive(Clone, Copy)]
 pub struct Counts {
     pub grades: usize,
     pub curves: usize,

@@ -14,7 +14,7 @@ use path_stretches::walk::walk_stretches;
 use si::Length;
 
 // Where the path stands when a link is joined.
-#[derive(Drop)]
+#[derive(Clone, Copy)]
 pub struct PathEnd {
     pub link: Length,
     pub grade: Length,
@@ -23,7 +23,7 @@ pub struct PathEnd {
 }
 
 // Whether a link's sums are finite, and where the path stands after it.
-#[derive(Drop)]
+#[derive(Clone, Copy)]
 pub struct Walked {
     pub finite: bool,
     pub after: PathEnd,

@@ -10,7 +10,7 @@ use path::path_tpc::{Answer, PathTpc};
 
 // A range of a column's entries.
 #[repr(C)]
-#[derive(Drop)]
+#[derive(Clone, Copy)]
 pub struct Range {
     pub from: usize,
     pub len: usize,
@@ -18,7 +18,7 @@ pub struct Range {
 
 // An answer with the range of a link's records.
 #[repr(C)]
-#[derive(Drop)]
+#[derive(Clone, Copy)]
 pub struct RangeAnswer {
     pub answer: Answer,
     pub range: Range,

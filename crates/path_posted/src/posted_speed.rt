@@ -10,7 +10,7 @@ use speed::posted::posted_at;
 
 // An answer, and the speed that goes with it.
 #[repr(C)]
-#[derive(Drop)]
+#[derive(Clone, Copy)]
 pub struct PostedAnswer {
     pub answer: Answer,
     pub speed: Velocity,

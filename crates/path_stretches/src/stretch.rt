@@ -8,7 +8,7 @@ use link::train_params::TrainParams;
 use si::{Curvature, Length, Ratio};
 
 // What it adds: a coefficient for the record before, unless that keeps its own, and a record at the stretch's end.
-#[derive(Drop)]
+#[derive(Clone, Copy)]
 pub struct Stretch {
     pub keeps: bool,
     pub coefficient: Ratio,
@@ -18,7 +18,7 @@ pub struct Stretch {
 }
 
 // A curve's resistance, and whether every result on the way is finite.
-#[derive(Drop)]
+#[derive(Clone, Copy)]
 pub struct Worked {
     pub value: Ratio,
     pub finite: bool,

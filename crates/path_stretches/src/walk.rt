@@ -17,7 +17,7 @@ use lookup::path_res_coeff::coeff_at;
 use si::Length;
 
 // Where a walk ends, and whether every result on the way is finite.
-#[derive(Drop)]
+#[derive(Clone, Copy)]
 pub struct Reached {
     pub finite: bool,
     pub offset: Length,

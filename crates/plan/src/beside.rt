@@ -7,7 +7,7 @@ use si::{Length, Velocity};
 use view::holders::lowest_below;
 
 // Its run: how many speed points it has, and whether it goes on, stopped at a drop, or is not followed for want of room.
-#[derive(Drop)]
+#[derive(Clone, Copy)]
 pub struct Course {
     pub points: usize,
     pub state: u32,

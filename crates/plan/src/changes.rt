@@ -7,7 +7,7 @@ use route::kinds::{CLEAR, EXTEND, FINISH, NEW, RECALCULATE};
 use si::Length;
 
 // What a call leaves: its answer, the path's record, and the counts of the links that went.
-#[derive(Drop)]
+#[derive(Clone, Copy)]
 pub struct Step {
     pub answer: Answer,
     pub path: PathTpc,

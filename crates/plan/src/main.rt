@@ -13,7 +13,7 @@ use show::{To, put, put_count};
 
 // What the arguments asked for so far: whether the next file is to be a picture, errors go among the output, and progress is shown; how many files there
 // were, and the status: 0 all calls done, 1 a call refused, 2 a file that could not be read or an argument that is unknown.
-#[derive(Drop)]
+#[derive(Clone, Copy)]
 struct Asked {
     svg: bool,
     together: bool,

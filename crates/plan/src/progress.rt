@@ -2,7 +2,7 @@
 use show::{put, put_count};
 
 // Whether the line is to be shown, and the second at which it was shown last, 0 for never.
-#[derive(Drop)]
+#[derive(Clone, Copy)]
 pub struct Clock {
     pub on: bool,
     pub shown: i64,

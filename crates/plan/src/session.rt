@@ -27,7 +27,7 @@ use view::profile::{add_borders, add_heights};
 use view::stretches::table;
 
 // The path, what was joined, the straps, the run of the original, and the line that is run; calls done and refused so far.
-#[derive(Drop)]
+#[derive(Clone, Copy)]
 pub struct Session {
     pub path: PathTpc,
     pub history: History,
@@ -41,7 +41,7 @@ pub struct Session {
 }
 
 // How many calls were done, and how many refused.
-#[derive(Drop)]
+#[derive(Clone, Copy)]
 pub struct Counts {
     pub done: usize,
     pub refused: usize,
@@ -122,7 +122,7 @@ fn drops(kind: u32, before: PathTpc, p: PathTpc) -> bool {
 }
 
 // The links whose limits a call that is done laid anew: those joined by an extension, or all; from one link point to another.
-#[derive(Drop)]
+#[derive(Clone, Copy)]
 struct Laid {
     from: usize,
     to: usize,

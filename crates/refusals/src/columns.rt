@@ -7,7 +7,7 @@ use decimal::whole::Whole;
 use route::fields::{bytes_at, is_word};
 
 // Field .1 of the line at .0.
-#[derive(Drop)]
+#[derive(Clone, Copy)]
 pub struct Place(pub usize, pub usize);
 
 // Where the line behind the one at `at` begins.

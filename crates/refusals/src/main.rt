@@ -13,7 +13,7 @@ use show::{count, say};
 use std::num::wrapping_add_usize;
 
 // How many lines there were, how many of them set a column, are a row, or cannot be read, and whether the last one set a column.
-#[derive(Drop)]
+#[derive(Clone, Copy)]
 struct Seen {
     lines: usize,
     columns: usize,

@@ -9,7 +9,7 @@ use resistance::strap::{Strap, path_tpc_idx_front as front_index};
 use si::Length;
 
 // Where the current train, table, list and position begin in the words, and the indices of the point and of the strap.
-#[derive(Drop)]
+#[derive(Clone, Copy)]
 pub struct Session {
     pub train: usize,
     pub table: usize,

@@ -15,7 +15,7 @@ use train::train_state::{TrainState, state_finite};
 
 // The answer of a search, with the index found; 0 for a refusal.
 #[repr(C)]
-#[derive(Drop)]
+#[derive(Clone, Copy)]
 pub struct Searched {
     pub answer: Answer,
     pub idx: usize,
@@ -23,7 +23,7 @@ pub struct Searched {
 
 // An answer with a coefficient.
 #[repr(C)]
-#[derive(Drop)]
+#[derive(Clone, Copy)]
 pub struct CoeffAnswer {
     pub answer: Answer,
     pub res_coeff: Ratio,
@@ -31,7 +31,7 @@ pub struct CoeffAnswer {
 
 // An answer with a net value.
 #[repr(C)]
-#[derive(Drop)]
+#[derive(Clone, Copy)]
 pub struct NetAnswer {
     pub answer: Answer,
     pub res_net: Length,

@@ -14,14 +14,14 @@ use train::train_state::{TrainState, state_finite};
 
 // The index of the train's middle in a list.
 #[repr(C)]
-#[derive(Drop)]
+#[derive(Clone, Copy)]
 pub struct Point {
     pub idx: usize,
 }
 
 // An answer with the record of a point.
 #[repr(C)]
-#[derive(Drop)]
+#[derive(Clone, Copy)]
 pub struct PointAnswer {
     pub answer: Answer,
     pub point: Point,
@@ -29,7 +29,7 @@ pub struct PointAnswer {
 
 // An answer with the record of a point and a force.
 #[repr(C)]
-#[derive(Drop)]
+#[derive(Clone, Copy)]
 pub struct PointRes {
     pub answer: Answer,
     pub point: Point,

@@ -14,7 +14,7 @@ use train::train_state::{TrainState, state_finite};
 
 // The indices of the train's front and back in a list.
 #[repr(C)]
-#[derive(Drop)]
+#[derive(Clone, Copy)]
 pub struct Strap {
     pub idx_front: usize,
     pub idx_back: usize,
@@ -22,7 +22,7 @@ pub struct Strap {
 
 // An answer with the record of a strap.
 #[repr(C)]
-#[derive(Drop)]
+#[derive(Clone, Copy)]
 pub struct StrapAnswer {
     pub answer: Answer,
     pub strap: Strap,
@@ -30,7 +30,7 @@ pub struct StrapAnswer {
 
 // An answer with the record of a strap and a force.
 #[repr(C)]
-#[derive(Drop)]
+#[derive(Clone, Copy)]
 pub struct StrapRes {
     pub answer: Answer,
     pub strap: Strap,
@@ -38,7 +38,7 @@ pub struct StrapRes {
 }
 
 // What the searches of a call leave: the indices, and whether one record serves both ends.
-#[derive(Drop)]
+#[derive(Clone, Copy)]
 pub struct Moved {
     pub answer: Answer,
     pub strap: Strap,

@@ -12,7 +12,7 @@ use link::train_params::{TrainParams, TrainType};
 use si::{Length, Mass, Ratio, Velocity};
 
 // The link and the set place that a line belongs to, and how many records of each pool stand before it.
-#[derive(Drop)]
+#[derive(Clone, Copy)]
 pub struct Here {
     pub link: usize,
     pub place: usize,

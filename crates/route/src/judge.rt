@@ -50,7 +50,7 @@ pub const NO_ROOM: u32 = 8;
 pub const NO_TRAIN: u32 = 9; // at the file's end
 
 // What the lines so far had: how many records of each kind, where the train's line is, which set places the last link has.
-#[derive(Drop)]
+#[derive(Clone, Copy)]
 pub struct Seen {
     pub line: usize,
     pub kind: u32,

@@ -15,7 +15,7 @@ use train::set_link_and_offset::with_link_and_offset;
 use train::train_state::TrainState;
 
 // The straps of grades and curves, once they stand on the path.
-#[derive(Drop)]
+#[derive(Clone, Copy)]
 pub struct Straps {
     pub made: bool,
     pub grade: Strap,
@@ -235,7 +235,7 @@ fn one_resistance(
 }
 
 // The straps behind a line, and whether its call was done.
-#[derive(Drop)]
+#[derive(Clone, Copy)]
 pub struct Stood {
     pub straps: Straps,
     pub done: bool,

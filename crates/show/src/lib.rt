@@ -2,7 +2,7 @@
 use libc::STDOUT_FILENO;
 
 // Where the text of a run goes, and where its errors go: descriptors, below 0 for nowhere.
-#[derive(Drop)]
+#[derive(Clone, Copy)]
 pub struct To {
     pub out: i32,
     pub err: i32,

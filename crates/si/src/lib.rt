@@ -1,50 +1,51 @@
 // Quantities as wrapped numbers, one type for each unit of the Rust's si, and the constants of uc.rs.
+#![tactic(auto)]
 ghost use Rattle.std.specs.Prelude.{◌≡◌};
 ghost use Rattle.si.specs.Constants as constants;
 
 // metres
 #[repr(C)]
-#[derive(Drop)]
+#[derive(Clone, Copy)]
 pub struct Length(pub f64);
 
 // metres a second
 #[repr(C)]
-#[derive(Drop)]
+#[derive(Clone, Copy)]
 pub struct Velocity(pub f64);
 
 // kilograms
 #[repr(C)]
-#[derive(Drop)]
+#[derive(Clone, Copy)]
 pub struct Mass(pub f64);
 
 // newtons
 #[repr(C)]
-#[derive(Drop)]
+#[derive(Clone, Copy)]
 pub struct Force(pub f64);
 
 // without a unit
 #[repr(C)]
-#[derive(Drop)]
+#[derive(Clone, Copy)]
 pub struct Ratio(pub f64);
 
 // radians
-#[derive(Drop)]
+#[derive(Clone, Copy)]
 pub struct Angle(pub f64);
 
 // radians a metre
-#[derive(Drop)]
+#[derive(Clone, Copy)]
 pub struct Curvature(pub f64);
 
 // square metres
-#[derive(Drop)]
+#[derive(Clone, Copy)]
 pub struct Area(pub f64);
 
 // seconds
-#[derive(Drop)]
+#[derive(Clone, Copy)]
 pub struct Time(pub f64);
 
 // watts
-#[derive(Drop)]
+#[derive(Clone, Copy)]
 pub struct Power(pub f64);
 
 // REV: one turn.

@@ -5,7 +5,7 @@ ghost use Rattle.ieee.specs.Speed.{smaller, min_speed};
 use si::{Length, Velocity};
 
 // From offset_start up to offset_end.
-#[derive(Drop)]
+#[derive(Clone, Copy)]
 pub struct SpeedLimit {
     pub offset_start: Length,
     pub offset_end: Length,

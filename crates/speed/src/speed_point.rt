@@ -9,7 +9,7 @@ use column::Two;
 use si::{Length, Velocity};
 
 // From offset on, speed_limit holds.
-#[derive(Drop)]
+#[derive(Clone, Copy)]
 pub struct SpeedLimitPoint {
     pub offset: Length,
     pub speed_limit: Velocity,

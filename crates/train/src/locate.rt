@@ -12,7 +12,7 @@ use path::path_tpc::{Answer, PathTpc};
 use si::Length;
 
 // An answer, and the three link fields of a position that go with it.
-#[derive(Drop)]
+#[derive(Clone, Copy)]
 pub struct Located {
     pub answer: Answer,
     pub link_idx_front: u32,

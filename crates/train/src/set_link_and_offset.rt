@@ -9,7 +9,7 @@ use path::path_tpc::{Answer, PathTpc};
 
 // A position, and the answer of the call that handed it back.
 #[repr(C)]
-#[derive(Drop)]
+#[derive(Clone, Copy)]
 pub struct StateAnswer {
     pub answer: Answer,
     pub state: TrainState,

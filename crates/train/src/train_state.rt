@@ -5,7 +5,7 @@ ghost use Rattle.train.specs.Position.{state_finite};
 use si::{Force, Length};
 
 #[repr(C)]
-#[derive(Drop)]
+#[derive(Clone, Copy)]
 pub struct TrainState {
     pub offset: Length,
     pub offset_back: Length,

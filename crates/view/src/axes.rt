@@ -7,7 +7,7 @@ use speed::speed_limit::lesser;
 
 // What the picture shows: offsets from 0 to `last`, of which those before `begin` were dropped, speeds up to `reach`, heights from `low` to `high`. No
 // heights where `low` is above `high`.
-#[derive(Drop)]
+#[derive(Clone, Copy)]
 pub struct Frame {
     pub begin: f64,
     pub last: f64,
@@ -60,7 +60,7 @@ pub fn point(letter: &[u8], x: f64, y: f64) {
 }
 
 // A power of ten.
-#[derive(Drop)]
+#[derive(Clone, Copy)]
 struct Ten {
     power: usize,
     value: f64,
@@ -95,7 +95,7 @@ fn ten_down(t: Ten, x: f64) -> Ten {
 }
 
 // A round step: 1, 2 or 5 times a power of ten, and its size.
-#[derive(Drop)]
+#[derive(Clone, Copy)]
 pub struct Step {
     pub digit: u64,
     pub power: usize,
@@ -148,7 +148,7 @@ fn ceiling(x: f64) -> f64 {
 }
 
 // Offsets across in metres, speeds in m/s at the left, in km/h at the right, heights in metres at the left.
-#[derive(Drop)]
+#[derive(Clone, Copy)]
 pub enum Axis {
     Distance,
     Speed,

@@ -21,7 +21,7 @@ pub fn whole(x: f64) -> u64
 }
 
 // A whole number times a power of ten.
-#[derive(Drop)]
+#[derive(Clone, Copy)]
 struct Stripped {
     digits: u64,
     power: usize,

@@ -17,7 +17,7 @@ use speed::speed_limit::SpeedLimit;
 
 // How many limits, link borders and heights there are. A limit has a record of three, start, end and end with its tail, and one of two, speed and link
 // number; a border its offset and the number of the link behind it; a height an offset and the height there.
-#[derive(Drop)]
+#[derive(Clone, Copy)]
 pub struct History {
     pub limits: usize,
     pub borders: usize,

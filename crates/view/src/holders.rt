@@ -6,7 +6,7 @@ use si::Velocity;
 use speed::speed_limit::lesser;
 
 // Limit i; the top speed; neither, which is said only where a limit that was laid is not among those given.
-#[derive(Drop)]
+#[derive(Clone, Copy)]
 pub enum Held {
     Limit(usize),
     Top,

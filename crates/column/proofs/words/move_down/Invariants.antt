@@ -1,0 +1,12 @@
+-- `move_down`: at each turn the first k entries are moved.
+use Prim.Native.Nat.{◌-◌}
+use native.Mathlib.Omega.{arith}
+use borrow.Author.Rules.{rules}
+use Rattle.column.proofs.Moves.{Downed, downed-none, downed-more, downed-all}
+use Rattle.column.proofs.words.move_down.Given as goal
+
+abbrev pub invariant-loop-k : goal.invariant-loop-k
+invariant-loop-k l = Downed l.initial.col l.i l.j l.n l.col l.k
+
+abbrev pub decreases-loop-k : goal.decreases-loop-k
+decreases-loop-k l = l.n - l.k

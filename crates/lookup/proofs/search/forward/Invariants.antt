@@ -1,0 +1,18 @@
+-- `forward`: from i on the search ends where it ends from the hint on.
+use Prim.Native.Nat.{◌-◌, ◌<◌}
+use mathlib.Core.Path.{◌≡◌, refl, sym, ap, ◌∙◌}
+use native.Mathlib.Omega.{arith}
+use lib.Ieee as Ieee
+use lib.Ieee.{Float}
+use Rattle.column.proofs.Bridge.{length-records}
+use Rattle.lookup.specs.Coeff.{triple, coeffs}
+use Rattle.lookup.proofs.Coeffs.{triple-lawful}
+use Rattle.lookup.specs.Search.{forwards}
+use Rattle.lookup.proofs.SearchSteps.{forward-pass, forward-stop, forward-end}
+use Rattle.lookup.proofs.search.forward.Given as goal
+
+abbrev pub invariant-loop-i : goal.invariant-loop-i
+invariant-loop-i l = (l.i < l.n) × (forwards l.x.0 l.i (coeffs l.n l.col) ≡ forwards l.x.0 l.hint (coeffs l.n l.col))
+
+abbrev pub decreases-loop-i : goal.decreases-loop-i
+decreases-loop-i l = l.n - l.i
