@@ -1,6 +1,6 @@
 // Where the grades and curves of a link lie: the library's call under a C name, with the same equation.
 ghost use Rattle.std.specs.Prelude.{◌≡◌, true, false};
-ghost use Rattle.path.specs.Records.{columns_before};
+ghost use Rattle.path.specs.Records.{columns};
 ghost use Rattle.path_link_records.specs.LinkRecords.{link_range_of};
 
 use path::path_tpc::PathTpc;
@@ -19,7 +19,7 @@ pub extern "C" fn mochaspit_link_grades(
     powers: &[f64],
     districts: &[u32],
 ) -> RangeAnswer
-    ensures { result ≡ link_range_of false k path (columns_before offsets numbers grades curves speeds powers districts) }
+    ensures { result ≡ link_range_of false k path (columns offsets.now numbers.now grades.now curves.now speeds.now powers.now districts.now) }
 {
     link_range(
         path, k, false, offsets, numbers, grades, curves, speeds, powers, districts,
@@ -39,7 +39,7 @@ pub extern "C" fn mochaspit_link_curves(
     powers: &[f64],
     districts: &[u32],
 ) -> RangeAnswer
-    ensures { result ≡ link_range_of true k path (columns_before offsets numbers grades curves speeds powers districts) }
+    ensures { result ≡ link_range_of true k path (columns offsets.now numbers.now grades.now curves.now speeds.now powers.now districts.now) }
 {
     link_range(
         path, k, true, offsets, numbers, grades, curves, speeds, powers, districts,

@@ -1,7 +1,7 @@
 // The calls that may change a path. Each is the library's call under a C name, with the same equation.
 ghost use Rattle.std.specs.Prelude.{◌≡◌};
-ghost use Rattle.link.specs.Table.{table_before};
-ghost use Rattle.path.specs.Records.{columns_before, columns_after};
+ghost use Rattle.link.specs.Table.{table_of};
+ghost use Rattle.path.specs.Records.{columns};
 ghost use Rattle.path.specs.Answers.{Outcome, left};
 ghost use Rattle.path_ends.specs.New.{new_of};
 ghost use Rattle.path_ends.specs.Finish.{finish_of};
@@ -30,8 +30,8 @@ pub extern "C" fn mochaspit_new(
     districts: &mut [u32],
 ) -> PathAnswer
     ensures { ◌≡◌ {A = Outcome}
-        (left result (columns_after offsets numbers grades curves speeds powers districts))
-        (new_of (train_of train) (columns_before offsets numbers grades curves speeds powers districts)) }
+        (left result (columns offsets.new numbers.new grades.new curves.new speeds.new powers.new districts.new))
+        (new_of (train_of train) (columns offsets.old numbers.old grades.old curves.old speeds.old powers.old districts.old)) }
 {
     path_ends::new::new(
         train_of(train),
@@ -70,10 +70,10 @@ pub extern "C" fn mochaspit_extend(
     link_districts: &[u32],
 ) -> PathAnswer
     ensures { ◌≡◌ {A = Outcome}
-        (left result (columns_after offsets numbers grades curves speeds powers districts))
+        (left result (columns offsets.new numbers.new grades.new curves.new speeds.new powers.new districts.new))
         (extend_of (train_of train)
-        (table_before links lengths sets elevs headings limits codes values link_powers link_districts) list.now path
-        (columns_before offsets numbers grades curves speeds powers districts)) }
+        (table_of links.now lengths.now sets.now elevs.now headings.now limits.now codes.now values.now link_powers.now link_districts.now) list.now path
+        (columns offsets.old numbers.old grades.old curves.old speeds.old powers.old districts.old)) }
 {
     path_extend::extend::extend(
         path,
@@ -113,8 +113,9 @@ pub extern "C" fn mochaspit_clear(
     districts: &mut [u32],
 ) -> ClearAnswer
     ensures { ◌≡◌ {A = Cleared}
-        (record { outcome = left result.outcome (columns_after offsets numbers grades curves speeds powers districts); dropped = result.dropped })
-        (clear_of offset.0 path (columns_before offsets numbers grades curves speeds powers districts)) }
+        (record { outcome = left result.outcome
+        (columns offsets.new numbers.new grades.new curves.new speeds.new powers.new districts.new); dropped = result.dropped })
+        (clear_of offset.0 path (columns offsets.old numbers.old grades.old curves.old speeds.old powers.old districts.old)) }
 {
     path_clear::clear::clear(
         path,
@@ -143,8 +144,9 @@ pub extern "C" fn mochaspit_clear_each(
     districts: &mut [u32],
 ) -> ClearAnswer
     ensures { ◌≡◌ {A = Cleared}
-        (record { outcome = left result.outcome (columns_after offsets numbers grades curves speeds powers districts); dropped = result.dropped })
-        (clear_each xs.now path (columns_before offsets numbers grades curves speeds powers districts)) }
+        (record { outcome = left result.outcome
+        (columns offsets.new numbers.new grades.new curves.new speeds.new powers.new districts.new); dropped = result.dropped })
+        (clear_each xs.now path (columns offsets.old numbers.old grades.old curves.old speeds.old powers.old districts.old)) }
 {
     path_clear::clear_each::clear_each(
         path,
@@ -172,8 +174,8 @@ pub extern "C" fn mochaspit_finish(
     districts: &mut [u32],
 ) -> PathAnswer
     ensures { ◌≡◌ {A = Outcome}
-        (left result (columns_after offsets numbers grades curves speeds powers districts))
-        (finish_of path (columns_before offsets numbers grades curves speeds powers districts)) }
+        (left result (columns offsets.new numbers.new grades.new curves.new speeds.new powers.new districts.new))
+        (finish_of path (columns offsets.old numbers.old grades.old curves.old speeds.old powers.old districts.old)) }
 {
     path_ends::finish::finish(
         path,
@@ -211,10 +213,10 @@ pub extern "C" fn mochaspit_recalc_speeds(
     link_districts: &[u32],
 ) -> PathAnswer
     ensures { ◌≡◌ {A = Outcome}
-        (left result (columns_after offsets numbers grades curves speeds powers districts))
+        (left result (columns offsets.new numbers.new grades.new curves.new speeds.new powers.new districts.new))
         (recalc_of (train_of train)
-        (table_before links lengths sets elevs headings limits codes values link_powers link_districts) path
-        (columns_before offsets numbers grades curves speeds powers districts)) }
+        (table_of links.now lengths.now sets.now elevs.now headings.now limits.now codes.now values.now link_powers.now link_districts.now) path
+        (columns offsets.old numbers.old grades.old curves.old speeds.old powers.old districts.old)) }
 {
     path_speeds::recalc_speeds::recalc_speeds(
         path,
@@ -253,8 +255,8 @@ pub extern "C" fn mochaspit_reindex(
     districts: &mut [u32],
 ) -> PathAnswer
     ensures { ◌≡◌ {A = Outcome}
-        (left result (columns_after offsets numbers grades curves speeds powers districts))
-        (reindex_of new.now path (columns_before offsets numbers grades curves speeds powers districts)) }
+        (left result (columns offsets.new numbers.new grades.new curves.new speeds.new powers.new districts.new))
+        (reindex_of new.now path (columns offsets.old numbers.old grades.old curves.old speeds.old powers.old districts.old)) }
 {
     path_reindex::reindex::reindex(
         path,

@@ -1,6 +1,6 @@
 // The links where a train stands: the library's call by value under a C name, with the same equations.
 ghost use Rattle.std.specs.Prelude.{◌≡◌};
-ghost use Rattle.path.specs.Records.{columns_before};
+ghost use Rattle.path.specs.Records.{columns};
 ghost use Rattle.train.specs.Locate.{locate_of, placed};
 
 use path::path_tpc::PathTpc;
@@ -20,8 +20,8 @@ pub extern "C" fn mochaspit_set_link_and_offset(
     powers: &[f64],
     districts: &[u32],
 ) -> StateAnswer
-    ensures { (result.answer ≡ (locate_of state path (columns_before offsets numbers grades curves speeds powers districts)).answer) ×
-        (result.state ≡ placed state (locate_of state path (columns_before offsets numbers grades curves speeds powers districts))) }
+    ensures { (result.answer ≡ (locate_of state path (columns offsets.now numbers.now grades.now curves.now speeds.now powers.now districts.now)).answer) ×
+        (result.state ≡ placed state (locate_of state path (columns offsets.now numbers.now grades.now curves.now speeds.now powers.now districts.now))) }
 {
     with_link_and_offset(
         state, path, offsets, numbers, grades, curves, speeds, powers, districts,

@@ -1,6 +1,6 @@
 // The speed posted at an offset: the library's call under a C name, with the same equation.
 ghost use Rattle.std.specs.Prelude.{◌≡◌};
-ghost use Rattle.path.specs.Records.{columns_before};
+ghost use Rattle.path.specs.Records.{columns};
 ghost use Rattle.path_posted.specs.Posted.{posted_of};
 
 use path::path_tpc::PathTpc;
@@ -20,7 +20,7 @@ pub extern "C" fn mochaspit_posted_speed(
     powers: &[f64],
     districts: &[u32],
 ) -> PostedAnswer
-    ensures { result ≡ posted_of offset.0 path (columns_before offsets numbers grades curves speeds powers districts) }
+    ensures { result ≡ posted_of offset.0 path (columns offsets.now numbers.now grades.now curves.now speeds.now powers.now districts.now) }
 {
     posted_speed(
         path, offset, offsets, numbers, grades, curves, speeds, powers, districts,

@@ -1,7 +1,5 @@
 -- The link table: its columns, and the link that they hold at a number. What lies past a column's end counts as 0. Definitions only.
 use Rattle.std.specs.Prelude.{ℕ, suc, ◌+◌, ◌*◌, Bool, cond, ◌&&◌, List, length, ◌==◌, nat_le, nat_lt, slice_index, slice_index_or, Float}
-use Rattle.std.specs.Borrow.{Bor}
-use denote.Triple.Both.{Both}
 use Rattle.ieee.specs.Number.{+0}
 use Rattle.column.specs.Records.{record_at, two, three}
 use Rattle.speed.specs.declared.speed_limit.SpeedLimit.{SpeedLimit}
@@ -54,23 +52,6 @@ table_of links lengths sets elevs headings limits codes values powers districts 
       powers = powers;
       districts = districts;
     }
-
--- a column of a call as a `requires` names it, and a lent one as an `ensures` does: as it came and as it is left
-abbrev pub Seen : Type 0 → Type 0
-Seen A = Bor (List A)
-
-abbrev pub Lent : Type 0 → Type 0
-Lent A = Both (Seen A) (Seen A)
-
--- the table of a call: in a `requires`, and as it came
-abbrev pub table_now : Seen ℕ → Seen Float → Seen ℕ → Seen Float → Seen Float → Seen Float → Seen ℕ → Seen Float → Seen Float → Seen ℕ → LinkTable
-table_now links lengths sets elevs headings limits codes values powers districts =
-    table_of links.now lengths.now sets.now elevs.now headings.now limits.now codes.now values.now powers.now districts.now
-
-abbrev pub table_before : Lent ℕ → Lent Float → Lent ℕ → Lent Float → Lent Float → Lent Float → Lent ℕ → Lent Float → Lent Float → Lent ℕ → LinkTable
-table_before links lengths sets elevs headings limits codes values powers districts =
-    table_now links.entry lengths.entry sets.entry elevs.entry headings.entry limits.entry codes.entry values.entry
-    powers.entry districts.entry
 
 -- ---- records of the pools
 

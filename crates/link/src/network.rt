@@ -1,7 +1,7 @@
 // A link of the table: its numbers, and whether it is in the table, follows another and is well formed.
 ghost use Rattle.std.specs.Prelude.{◌≡◌, ◌^◌, ◌<◌};
 ghost use Rattle.link.specs.Lists.{every, up_from};
-ghost use Rattle.link.specs.Table.{set_at, numbers_of, in_table, table_before};
+ghost use Rattle.link.specs.Table.{set_at, numbers_of, in_table, table_of};
 ghost use Rattle.link.specs.Questions.{real_in, follows, set_formed, in_pools, well_formed};
 
 use crate::cat_power::limits_formed;
@@ -162,7 +162,7 @@ pub fn well_formed(
     districts: &[u32],
     n: u32,
 ) -> bool
-    ensures { result ≡ well_formed (table_before links lengths sets elevs headings limits codes values powers districts) n }
+    ensures { result ≡ well_formed (table_of links.now lengths.now sets.now elevs.now headings.now limits.now codes.now values.now powers.now districts.now) n }
 {
     let i = n as usize;
     let l = link_numbers(links, i);

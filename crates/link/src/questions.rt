@@ -1,6 +1,6 @@
 // Questions 4 to 7 over a list of link numbers: the first position that fails.
 ghost use Rattle.std.specs.Prelude.{◌≡◌, false, length};
-ghost use Rattle.link.specs.Table.{table_before};
+ghost use Rattle.link.specs.Table.{table_of};
 ghost use Rattle.link.specs.Questions as spec;
 
 use crate::network::{Judged, link_follows, link_numbers, real_in, well_formed};
@@ -76,7 +76,8 @@ pub fn question6(
     districts: &[u32],
 ) -> Judged
     ensures { result ≡ spec.question6
-        (table_before links lengths sets elevs headings limits codes values powers districts) (spec.numbers points list.now count) }
+        (table_of links.now lengths.now sets.now elevs.now headings.now limits.now codes.now values.now powers.now districts.now)
+        (spec.numbers points list.now count) }
 {
     let mut k = 0;
     while k < count {

@@ -1,6 +1,6 @@
 // Which clause of question 6 a link fails, and which of question 5.
 ghost use Rattle.std.specs.Prelude.{◌≡◌};
-ghost use Rattle.link.specs.Table.{table_before};
+ghost use Rattle.link.specs.Table.{table_of};
 ghost use Rattle.messages.specs.Clauses as spec;
 
 use link::cat_power::limits_formed;
@@ -37,7 +37,8 @@ pub fn clause_of(
     districts: &[u32],
     n: u32,
 ) -> u32
-    ensures { result ≡ spec.clause_of (table_before links lengths sets elevs headings limits codes values powers districts) n }
+    ensures { result ≡ spec.clause_of
+        (table_of links.now lengths.now sets.now elevs.now headings.now limits.now codes.now values.now powers.now districts.now) n }
 {
     let l = link_numbers(links, n as usize);
     if l.idx_curr != n {

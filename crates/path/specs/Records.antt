@@ -9,7 +9,7 @@ use Rattle.speed.specs.Points.{Point}
 use Rattle.speed.specs.Column.{pair, points}
 use Rattle.lookup.specs.declared.path_res_coeff.PathResCoeff.{PathResCoeff}
 use Rattle.lookup.specs.Coeff.{triple, coeffs, no_coeff}
-use Rattle.link.specs.Table.{Seen, Lent, PowerLimit, power_at}
+use Rattle.link.specs.Table.{PowerLimit, power_at}
 use Rattle.path.specs.declared.path_tpc.PathTpc.{PathTpc}
 use Rattle.path.specs.declared.link_point.LinkPoint.{LinkPoint}
 
@@ -31,19 +31,6 @@ pub record Columns : Type 0 where
 abbrev pub columns : List Float → List ℕ → List Float → List Float → List Float → List Float → List ℕ → Columns
 columns offsets numbers grades curves speeds powers districts =
     record { offsets = offsets; numbers = numbers; grades = grades; curves = curves; speeds = speeds; powers = powers; districts = districts }
-
--- the columns of a call: in a `requires`, as they came, and as they are left
-abbrev pub columns_now : Seen Float → Seen ℕ → Seen Float → Seen Float → Seen Float → Seen Float → Seen ℕ → Columns
-columns_now offsets numbers grades curves speeds powers districts =
-    columns offsets.now numbers.now grades.now curves.now speeds.now powers.now districts.now
-
-abbrev pub columns_before : Lent Float → Lent ℕ → Lent Float → Lent Float → Lent Float → Lent Float → Lent ℕ → Columns
-columns_before offsets numbers grades curves speeds powers districts =
-    columns_now offsets.entry numbers.entry grades.entry curves.entry speeds.entry powers.entry districts.entry
-
-abbrev pub columns_after : Lent Float → Lent ℕ → Lent Float → Lent Float → Lent Float → Lent Float → Lent ℕ → Columns
-columns_after offsets numbers grades curves speeds powers districts =
-    columns_now offsets.exit numbers.exit grades.exit curves.exit speeds.exit powers.exit districts.exit
 
 -- R12: 1,025 link points, 16,384 grades, 16,384 curves, 4,096 speed points, 1,024 power limits, or what a shorter column holds
 -- n is at most each of three figures

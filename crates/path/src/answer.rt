@@ -1,6 +1,6 @@
 // Answers, and questions 1 and 2 of a path in turn.
 ghost use Rattle.std.specs.Prelude.{◌≡◌};
-ghost use Rattle.path.specs.Records.{columns_before};
+ghost use Rattle.path.specs.Records.{columns};
 ghost use Rattle.path.specs.Answers.{done, ask, ask_each};
 ghost use Rattle.path.specs.Sound.{path_answer};
 
@@ -57,7 +57,7 @@ pub fn path_answer(
     powers: &[f64],
     districts: &[u32],
 ) -> Answer
-    ensures { result ≡ path_answer also p (columns_before offsets numbers grades curves speeds powers districts) }
+    ensures { result ≡ path_answer also p (columns offsets.now numbers.now grades.now curves.now speeds.now powers.now districts.now) }
 {
     if !also {
         return asked(1, false);

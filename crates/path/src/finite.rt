@@ -1,7 +1,7 @@
 // Question 1 of a path and of a train: their numbers are finite.
 ghost use Rattle.std.specs.Prelude.{◌≡◌, ◌*◌, ◌<◌, take};
 ghost use Rattle.ieee.specs.Number.{all_finite};
-ghost use Rattle.path.specs.Records.{columns_before};
+ghost use Rattle.path.specs.Records.{columns};
 ghost use Rattle.path.specs.Sound.{path_finite, train_finite};
 
 use crate::path_tpc::PathTpc;
@@ -31,7 +31,7 @@ pub fn path_finite(
     powers: &[f64],
     districts: &[u32],
 ) -> bool
-    ensures { result ≡ path_finite p (columns_before offsets numbers grades curves speeds powers districts) }
+    ensures { result ≡ path_finite p (columns offsets.now numbers.now grades.now curves.now speeds.now powers.now districts.now) }
 {
     let links = column::floats::all_finite(offsets, p.link_count);
     let slopes = coeffs_finite(grades, p.grade_count, p.is_finished);

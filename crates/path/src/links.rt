@@ -1,6 +1,6 @@
 // Questions 4 to 7 of the links that a list, or link points, name.
 ghost use Rattle.std.specs.Prelude.{◌≡◌};
-ghost use Rattle.link.specs.Table.{table_before};
+ghost use Rattle.link.specs.Table.{table_of};
 ghost use Rattle.link.specs.Questions as questions;
 ghost use Rattle.path.specs.Answers.{links_answer};
 
@@ -29,7 +29,7 @@ pub fn links_answer(
     kind: TrainType,
 ) -> Answer
     ensures { result ≡ links_answer
-        (table_before links lengths sets elevs headings limits codes values powers districts) kind fifth
+        (table_of links.now lengths.now sets.now elevs.now headings.now limits.now codes.now values.now powers.now districts.now) kind fifth
         (questions.numbers points list.now count) }
 {
     let real = asked_each(4, question4(list, points, count, links, lengths, sets));

@@ -1,6 +1,6 @@
 // Entries past the counts of a path.
 ghost use Rattle.std.specs.Prelude.{◌≡◌, true};
-ghost use Rattle.path.specs.Records.{Columns, columns_now, columns_before, columns_after, path_of, columns_of};
+ghost use Rattle.path.specs.Records.{Columns, columns, path_of, columns_of};
 ghost use Rattle.path.specs.Sound.{within_bounds};
 
 use crate::path_tpc::PathTpc;
@@ -16,12 +16,12 @@ pub fn zero_rest(
     powers: &mut [f64],
     districts: &mut [u32],
 )
-    requires { within_bounds p (columns_now offsets numbers grades curves speeds powers districts) ≡ true }
+    requires { within_bounds p (columns offsets.old numbers.old grades.old curves.old speeds.old powers.old districts.old) ≡ true }
     ensures { ◌≡◌ {A = Columns}
-        (columns_after offsets numbers grades curves speeds powers districts)
+        (columns offsets.new numbers.new grades.new curves.new speeds.new powers.new districts.new)
         (columns_of
-        (columns_before offsets numbers grades curves speeds powers districts)
-        (path_of p (columns_before offsets numbers grades curves speeds powers districts))) }
+        (columns offsets.old numbers.old grades.old curves.old speeds.old powers.old districts.old)
+        (path_of p (columns offsets.old numbers.old grades.old curves.old speeds.old powers.old districts.old))) }
 {
     column::floats::zero_from(&mut *offsets, p.link_count);
     column::words::zero_from(&mut *numbers, 4 * p.link_count);

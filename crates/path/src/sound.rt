@@ -4,7 +4,7 @@ ghost use Rattle.ieee.specs.Number.{+0};
 ghost use Rattle.column.specs.Records.{record_at, two};
 ghost use Rattle.speed.specs.Column.{points};
 ghost use Rattle.lookup.specs.Coeff.{coeffs};
-ghost use Rattle.path.specs.Records.{columns, columns_now, columns_before, link_point, link_points, path_of, is_within_all};
+ghost use Rattle.path.specs.Records.{columns, link_point, link_points, path_of, is_within_all};
 ghost use Rattle.path.specs.Sound as spec;
 
 use crate::link_point::{link_point_at, link_point_within};
@@ -36,7 +36,7 @@ pub fn within_bounds(
     powers: &[f64],
     districts: &[u32],
 ) -> bool
-    ensures { result ≡ spec.within_bounds p (columns_before offsets numbers grades curves speeds powers districts) }
+    ensures { result ≡ spec.within_bounds p (columns offsets.now numbers.now grades.now curves.now speeds.now powers.now districts.now) }
 {
     let links = within(p.link_count, 1025, offsets.len(), numbers.len() / 4);
     let slopes = within(p.grade_count, 16384, grades.len() / 3, grades.len() / 3);
@@ -216,8 +216,8 @@ fn sound_path(
     districts: &[u32],
 ) -> bool
     requires p_value { spec.one_of_each p ≡ true }
-    requires districts_value { spec.within_bounds p (columns_now offsets numbers grades curves speeds powers districts) ≡ true }
-    ensures { result ≡ spec.sound_path (path_of p (columns_before offsets numbers grades curves speeds powers districts)) }
+    requires districts_value { spec.within_bounds p (columns offsets.now numbers.now grades.now curves.now speeds.now powers.now districts.now) ≡ true }
+    ensures { result ≡ spec.sound_path (path_of p (columns offsets.now numbers.now grades.now curves.now speeds.now powers.now districts.now)) }
 {
     let n = p.link_count;
     let closed = closes(grades, p.grade_count) & closes(curves, p.curve_count);
@@ -243,7 +243,7 @@ pub fn path_sound(
     powers: &[f64],
     districts: &[u32],
 ) -> bool
-    ensures { result ≡ spec.sound p (columns_before offsets numbers grades curves speeds powers districts) }
+    ensures { result ≡ spec.sound p (columns offsets.now numbers.now grades.now curves.now speeds.now powers.now districts.now) }
 {
     if !one_of_each(p) {
         return false;

@@ -1,6 +1,6 @@
 // `clear`: the links behind an offset go.
 ghost use Rattle.std.specs.Prelude.{◌≡◌, true, ◌<◌, take};
-ghost use Rattle.path.specs.Records.{columns_now, columns_before, columns_after, link_points, path_of};
+ghost use Rattle.path.specs.Records.{columns, link_points, path_of};
 ghost use Rattle.path.specs.Answers.{Outcome, left, changed};
 ghost use Rattle.path.specs.Sound.{sound, totals};
 ghost use Rattle.path_clear.specs.Clear as spec;
@@ -57,7 +57,7 @@ fn clear_answer(
     powers: &[f64],
     districts: &[u32],
 ) -> Answer
-    ensures { result ≡ spec.clear_answer x.0 p (columns_before offsets numbers grades curves speeds powers districts) }
+    ensures { result ≡ spec.clear_answer x.0 p (columns offsets.now numbers.now grades.now curves.now speeds.now powers.now districts.now) }
 {
     let finite = ieee::is_finite(x.0);
     let first = path_answer(
@@ -85,14 +85,14 @@ fn cut(
     powers: &mut [f64],
     districts: &mut [u32],
 ) -> PathAnswer
-    requires districts_value { sound p (columns_now offsets numbers grades curves speeds powers districts) ≡ true }
+    requires districts_value { sound p (columns offsets.old numbers.old grades.old curves.old speeds.old powers.old districts.old) ≡ true }
     requires d_bound { d < p.link_count }
     requires dropped_value { dropped ≡ totals (take d (link_points p.link_count offsets.old numbers.old)) }
     ensures { ◌≡◌ {A = Outcome}
-        (left result (columns_after offsets numbers grades curves speeds powers districts))
+        (left result (columns offsets.new numbers.new grades.new curves.new speeds.new powers.new districts.new))
         (changed
-        (columns_before offsets numbers grades curves speeds powers districts)
-        (spec.without_links d (path_of p (columns_before offsets numbers grades curves speeds powers districts)))) }
+        (columns offsets.old numbers.old grades.old curves.old speeds.old powers.old districts.old)
+        (spec.without_links d (path_of p (columns offsets.old numbers.old grades.old curves.old speeds.old powers.old districts.old)))) }
 {
     let begin = Length(column::floats::get(&*offsets, d));
     column::floats::move_front(&mut *offsets, d, p.link_count);
@@ -131,14 +131,14 @@ pub fn cleared(
     powers: &mut [f64],
     districts: &mut [u32],
 ) -> PathAnswer
-    requires districts_value { sound p (columns_now offsets numbers grades curves speeds powers districts) ≡ true }
+    requires districts_value { sound p (columns offsets.old numbers.old grades.old curves.old speeds.old powers.old districts.old) ≡ true }
     requires d_bound { d < p.link_count }
     requires dropped_value { dropped ≡ totals (take d (link_points p.link_count offsets.old numbers.old)) }
     ensures { ◌≡◌ {A = Outcome}
-        (left result (columns_after offsets numbers grades curves speeds powers districts))
+        (left result (columns offsets.new numbers.new grades.new curves.new speeds.new powers.new districts.new))
         (changed
-        (columns_before offsets numbers grades curves speeds powers districts)
-        (spec.cleared_path d (path_of p (columns_before offsets numbers grades curves speeds powers districts)))) }
+        (columns offsets.old numbers.old grades.old curves.old speeds.old powers.old districts.old)
+        (spec.cleared_path d (path_of p (columns offsets.old numbers.old grades.old curves.old speeds.old powers.old districts.old)))) }
 {
     if d == 0 {
         zero_rest(
@@ -183,8 +183,9 @@ pub fn clear(
     districts: &mut [u32],
 ) -> ClearAnswer
     ensures { ◌≡◌ {A = spec.Cleared}
-        (record { outcome = left result.outcome (columns_after offsets numbers grades curves speeds powers districts); dropped = result.dropped })
-        (spec.clear_of x.0 p (columns_before offsets numbers grades curves speeds powers districts)) }
+        (record { outcome = left result.outcome
+        (columns offsets.new numbers.new grades.new curves.new speeds.new powers.new districts.new); dropped = result.dropped })
+        (spec.clear_of x.0 p (columns offsets.old numbers.old grades.old curves.old speeds.old powers.old districts.old)) }
 {
     let answer = clear_answer(
         p,

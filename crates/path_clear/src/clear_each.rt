@@ -1,6 +1,6 @@
 // `clear` at one offset after another, all or nothing: questions 1 and 2 of the path are asked once, and the records move once.
 ghost use Rattle.std.specs.Prelude.{◌≡◌, ◌+◌, ◌<◌, drop};
-ghost use Rattle.path.specs.Records.{columns_before, columns_after, link_points};
+ghost use Rattle.path.specs.Records.{columns, link_points};
 ghost use Rattle.path.specs.Answers.{left};
 ghost use Rattle.path_clear.specs.Clear.{Cleared, drop_count};
 ghost use Rattle.path_clear.specs.TrimsByPoints as spec;
@@ -99,7 +99,7 @@ fn judge_trims(
     powers: &[f64],
     districts: &[u32],
 ) -> Progress
-    ensures { result ≡ spec.progress_of xs.now p (columns_before offsets numbers grades curves speeds powers districts) }
+    ensures { result ≡ spec.progress_of xs.now p (columns offsets.now numbers.now grades.now curves.now speeds.now powers.now districts.now) }
 {
     let finite = first_finite(xs);
     let first = path_answer(
@@ -127,8 +127,9 @@ pub fn clear_each(
     districts: &mut [u32],
 ) -> ClearAnswer
     ensures { ◌≡◌ {A = Cleared}
-        (record { outcome = left result.outcome (columns_after offsets numbers grades curves speeds powers districts); dropped = result.dropped })
-        (clear_each xs.now p (columns_before offsets numbers grades curves speeds powers districts)) }
+        (record { outcome = left result.outcome
+        (columns offsets.new numbers.new grades.new curves.new speeds.new powers.new districts.new); dropped = result.dropped })
+        (clear_each xs.now p (columns offsets.old numbers.old grades.old curves.old speeds.old powers.old districts.old)) }
 {
     let g = judge_trims(
         p,

@@ -2,7 +2,7 @@
 ghost use Rattle.std.specs.Prelude.{◌≡◌, ◌-◌, ◌<◌, ◌≤◌};
 ghost use Rattle.column.specs.Records.{record_at, put_record};
 ghost use Rattle.lookup.specs.Coeff.{triple};
-ghost use Rattle.path.specs.Records.{columns_before, columns_after};
+ghost use Rattle.path.specs.Records.{columns};
 ghost use Rattle.path.specs.Answers.{Outcome, left};
 ghost use Rattle.path_ends.specs.Finish.{closing_after, closed_record, finish_answer, finish_of};
 
@@ -38,7 +38,7 @@ fn finish_answer(
     powers: &[f64],
     districts: &[u32],
 ) -> Answer
-    ensures { result ≡ finish_answer p (columns_before offsets numbers grades curves speeds powers districts) }
+    ensures { result ≡ finish_answer p (columns offsets.now numbers.now grades.now curves.now speeds.now powers.now districts.now) }
 {
     let first = path_answer(
         p, true, offsets, numbers, grades, curves, speeds, powers, districts,
@@ -82,8 +82,8 @@ pub fn finish(
     districts: &mut [u32],
 ) -> PathAnswer
     ensures { ◌≡◌ {A = Outcome}
-        (left result (columns_after offsets numbers grades curves speeds powers districts))
-        (finish_of p (columns_before offsets numbers grades curves speeds powers districts)) }
+        (left result (columns offsets.new numbers.new grades.new curves.new speeds.new powers.new districts.new))
+        (finish_of p (columns offsets.old numbers.old grades.old curves.old speeds.old powers.old districts.old)) }
 {
     let answer = finish_answer(
         p,

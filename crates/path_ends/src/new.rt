@@ -1,6 +1,6 @@
 // `new`: a path without links.
 ghost use Rattle.std.specs.Prelude.{◌≡◌};
-ghost use Rattle.path.specs.Records.{columns_before, columns_after};
+ghost use Rattle.path.specs.Records.{columns};
 ghost use Rattle.path.specs.Answers.{Outcome, left};
 ghost use Rattle.path_ends.specs.New.{start, refused_new, new_of};
 
@@ -54,8 +54,8 @@ pub fn new(
     districts: &mut [u32],
 ) -> PathAnswer
     ensures { ◌≡◌ {A = Outcome}
-        (left result (columns_after offsets numbers grades curves speeds powers districts))
-        (new_of train (columns_before offsets numbers grades curves speeds powers districts)) }
+        (left result (columns offsets.new numbers.new grades.new curves.new speeds.new powers.new districts.new))
+        (new_of train (columns offsets.old numbers.old grades.old curves.old speeds.old powers.old districts.old)) }
 {
     if !train_finite(train) {
         return refused(1);

@@ -1,8 +1,8 @@
 // `extend`: links are joined to a path's end.
 ghost use Rattle.std.specs.Prelude.{◌≡◌, true, ◌<◌};
 ghost use Rattle.link.specs.Lists.{every};
-ghost use Rattle.link.specs.Table.{table_now, table_before};
-ghost use Rattle.path.specs.Records.{columns, columns_now, columns_before, columns_after, link_points, path_of};
+ghost use Rattle.link.specs.Table.{table_of};
+ghost use Rattle.path.specs.Records.{columns, link_points, path_of};
 ghost use Rattle.path.specs.Answers.{Outcome, left, changed};
 ghost use Rattle.path.specs.Sound.{sound};
 ghost use Rattle.path_speeds.specs.Limits.{sets_of, few_at};
@@ -94,12 +94,13 @@ fn sums_answer(
     link_powers: &[f64],
     link_districts: &[u32],
 ) -> Answer
-    requires districts_value { sound p (columns_now offsets numbers grades curves speeds powers districts) ≡ true }
+    requires districts_value { sound p (columns offsets.now numbers.now grades.now curves.now speeds.now powers.now districts.now) ≡ true }
     requires list_value { every
-        (few_at train (sets_of (table_now links lengths sets elevs headings limits codes values link_powers link_districts))) list.now ≡ true }
+        (few_at train (sets_of
+        (table_of links.now lengths.now sets.now elevs.now headings.now limits.now codes.now values.now link_powers.now link_districts.now))) list.now ≡ true }
     ensures { result ≡ spec.sums_answer train own.0
-        (table_before links lengths sets elevs headings limits codes values link_powers link_districts) list.now p
-        (columns_before offsets numbers grades curves speeds powers districts) }
+        (table_of links.now lengths.now sets.now elevs.now headings.now limits.now codes.now values.now link_powers.now link_districts.now) list.now p
+        (columns offsets.now numbers.now grades.now curves.now speeds.now powers.now districts.now) }
 {
     let start = start_path_end(p, list, links, elevs, offsets, grades, curves);
     let sums = sums_question(
@@ -171,8 +172,8 @@ fn extend_answer(
     link_districts: &[u32],
 ) -> Answer
     ensures { result ≡ spec.extend_answer train
-        (table_before links lengths sets elevs headings limits codes values link_powers link_districts) list.now p
-        (columns_before offsets numbers grades curves speeds powers districts) }
+        (table_of links.now lengths.now sets.now elevs.now headings.now limits.now codes.now values.now link_powers.now link_districts.now) list.now p
+        (columns offsets.now numbers.now grades.now curves.now speeds.now powers.now districts.now) }
 {
     let first = path_answer(
         p,
@@ -261,19 +262,19 @@ fn joined(
     link_powers: &[f64],
     link_districts: &[u32],
 ) -> PathTpc
-    requires districts_value { sound p (columns_now offsets numbers grades curves speeds powers districts) ≡ true }
+    requires districts_value { sound p (columns offsets.old numbers.old grades.old curves.old speeds.old powers.old districts.old) ≡ true }
     requires ready { ready.Ready train
-        (table_now links lengths sets elevs headings limits codes values link_powers link_districts) list.now p
-        (columns_now offsets numbers grades curves speeds powers districts) }
+        (table_of links.now lengths.now sets.now elevs.now headings.now limits.now codes.now values.now link_powers.now link_districts.now) list.now p
+        (columns offsets.old numbers.old grades.old curves.old speeds.old powers.old districts.old) }
     ensures { ◌≡◌ {A = Outcome}
-        (left (ready.done_with result) (columns_after offsets numbers grades curves speeds powers districts))
+        (left (ready.done_with result) (columns offsets.new numbers.new grades.new curves.new speeds.new powers.new districts.new))
         (changed
-        (columns_before offsets numbers grades curves speeds powers districts)
+        (columns offsets.old numbers.old grades.old curves.old speeds.old powers.old districts.old)
         (join_all train
-        (table_before links lengths sets elevs headings limits codes values link_powers link_districts)
+        (table_of links.now lengths.now sets.now elevs.now headings.now limits.now codes.now values.now link_powers.now link_districts.now)
         (started
-        (table_before links lengths sets elevs headings limits codes values link_powers link_districts)
-        (path_of p (columns_before offsets numbers grades curves speeds powers districts)) list.now) list.now)) }
+        (table_of links.now lengths.now sets.now elevs.now headings.now limits.now codes.now values.now link_powers.now link_districts.now)
+        (path_of p (columns offsets.old numbers.old grades.old curves.old speeds.old powers.old districts.old)) list.now) list.now)) }
 {
     let begin = Length(coeff_at(&*grades, p.grade_count - 1).offset.0);
     join_points(
@@ -370,10 +371,10 @@ pub fn extend(
     link_districts: &[u32],
 ) -> PathAnswer
     ensures { ◌≡◌ {A = Outcome}
-        (left result (columns_after offsets numbers grades curves speeds powers districts))
+        (left result (columns offsets.new numbers.new grades.new curves.new speeds.new powers.new districts.new))
         (spec.extend_of train
-        (table_before links lengths sets elevs headings limits codes values link_powers link_districts) list.now p
-        (columns_before offsets numbers grades curves speeds powers districts)) }
+        (table_of links.now lengths.now sets.now elevs.now headings.now limits.now codes.now values.now link_powers.now link_districts.now) list.now p
+        (columns offsets.old numbers.old grades.old curves.old speeds.old powers.old districts.old)) }
 {
     let answer = extend_answer(
         p,

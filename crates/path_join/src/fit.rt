@@ -1,9 +1,9 @@
 // Question 9 of `extend`: the records of the listed links fit into the columns.
 ghost use Rattle.std.specs.Prelude.{◌≡◌, true, ◌≤◌, length};
 ghost use Rattle.link.specs.Lists.{every};
-ghost use Rattle.path_speeds.specs.Limits.{speed_sets_now, speed_sets_before, sets_of, few_at, count_at};
-ghost use Rattle.link.specs.Table.{table_now, table_before};
-ghost use Rattle.path.specs.Records.{columns, columns_now, columns_before};
+ghost use Rattle.path_speeds.specs.Limits.{speed_sets, sets_of, few_at, count_at};
+ghost use Rattle.link.specs.Table.{table_of};
+ghost use Rattle.path.specs.Records.{columns};
 ghost use Rattle.path.specs.Sound.{within_bounds};
 ghost use Rattle.path_join.specs.Fit.{records_fit};
 ghost use Rattle.path_join.specs.Walked.{counts_of};
@@ -57,8 +57,8 @@ fn sum_limits(
     train: TrainParams,
 ) -> usize
     requires list_len_bound { length list.now ≤ 1025 }
-    requires list_value { every (few_at train (speed_sets_now sets codes values limits)) list.now ≡ true }
-    ensures { result ≡ sum_of (count_at train (speed_sets_before sets codes values limits)) list.now }
+    requires list_value { every (few_at train (speed_sets sets.now codes.now values.now limits.now)) list.now ≡ true }
+    ensures { result ≡ sum_of (count_at train (speed_sets sets.now codes.now values.now limits.now)) list.now }
 {
     let mut n = 0;
     let mut k = 0;
@@ -92,12 +92,13 @@ pub fn records_fit(
     link_powers: &[f64],
     link_districts: &[u32],
 ) -> bool
-    requires districts_value { within_bounds p (columns_now offsets numbers grades curves speeds powers districts) ≡ true }
+    requires districts_value { within_bounds p (columns offsets.now numbers.now grades.now curves.now speeds.now powers.now districts.now) ≡ true }
     requires list_value { every
-        (few_at train (sets_of (table_now links lengths sets elevs headings limits codes values link_powers link_districts))) list.now ≡ true }
+        (few_at train (sets_of
+        (table_of links.now lengths.now sets.now elevs.now headings.now limits.now codes.now values.now link_powers.now link_districts.now))) list.now ≡ true }
     ensures { result ≡ records_fit train
-        (table_before links lengths sets elevs headings limits codes values link_powers link_districts) list.now p
-        (columns_before offsets numbers grades curves speeds powers districts) }
+        (table_of links.now lengths.now sets.now elevs.now headings.now limits.now codes.now values.now link_powers.now link_districts.now) list.now p
+        (columns offsets.now numbers.now grades.now curves.now speeds.now powers.now districts.now) }
 {
     if 1025 < list.len() {
         return false;

@@ -1,7 +1,7 @@
 // Question 8 of `extend`: every listed link's sums, with the path's end carried from link to link.
 ghost use Rattle.std.specs.Prelude.{◌≡◌, true, ◌<◌, ◌^◌};
 ghost use Rattle.link.specs.Lists.{every, first_no};
-ghost use Rattle.link.specs.Table.{table_now, table_before};
+ghost use Rattle.link.specs.Table.{table_of};
 ghost use Rattle.path_speeds.specs.Limits.{sets_of, few_at};
 ghost use Rattle.path_join.specs.Sums as spec;
 ghost use Rattle.path_join.specs.Walked.{walked};
@@ -47,8 +47,10 @@ fn walk_link(
     train: TrainParams,
 ) -> Walked
     requires i_bound { i < 2 ^ 40 }
-    requires i_value { few_at train (sets_of (table_now links lengths sets elevs headings limits codes values link_powers link_districts)) i ≡ true }
-    ensures { result ≡ walked train own.0 (table_before links lengths sets elevs headings limits codes values link_powers link_districts) at i }
+    requires i_value { few_at train (sets_of
+        (table_of links.now lengths.now sets.now elevs.now headings.now limits.now codes.now values.now link_powers.now link_districts.now)) i ≡ true }
+    ensures { result ≡ walked train own.0
+        (table_of links.now lengths.now sets.now elevs.now headings.now limits.now codes.now values.now link_powers.now link_districts.now) at i }
 {
     let l = link_numbers(links, i);
     let length = Length(column::floats::get(lengths, i));
@@ -96,10 +98,11 @@ pub fn sums_question(
     train: TrainParams,
 ) -> Judged
     requires { every
-        (few_at train (sets_of (table_now links lengths sets elevs headings limits codes values link_powers link_districts))) list.now ≡ true }
+        (few_at train (sets_of
+        (table_of links.now lengths.now sets.now elevs.now headings.now limits.now codes.now values.now link_powers.now link_districts.now))) list.now ≡ true }
     ensures { result ≡ first_no
         (spec.sums_from train own.0
-        (table_before links lengths sets elevs headings limits codes values link_powers link_districts) at list.now) }
+        (table_of links.now lengths.now sets.now elevs.now headings.now limits.now codes.now values.now link_powers.now link_districts.now) at list.now) }
 {
     let mut here = at;
     let mut k = 0;

@@ -1,6 +1,6 @@
 // The grade or curve records of a link, handed back as that part of the caller's column.
 ghost use Rattle.std.specs.Prelude.{◌≡◌, ◌+◌, ◌*◌, ◌<◌, ◌≤◌, length};
-ghost use Rattle.path.specs.Records.{columns_before, link_points};
+ghost use Rattle.path.specs.Records.{columns, link_points};
 ghost use Rattle.path.specs.Sound.{count_of, total};
 ghost use Rattle.path_link_records.specs.LinkRecords as spec;
 
@@ -36,7 +36,7 @@ fn part_answer(
     powers: &[f64],
     districts: &[u32],
 ) -> Answer
-    ensures { result ≡ spec.part_answer k p (columns_before offsets numbers grades curves speeds powers districts) }
+    ensures { result ≡ spec.part_answer k p (columns offsets.now numbers.now grades.now curves.now speeds.now powers.now districts.now) }
 {
     let first = path_answer(
         p, true, offsets, numbers, grades, curves, speeds, powers, districts,
@@ -97,7 +97,7 @@ pub fn link_grades<'a>(
 ) -> &'a [f64]
     ensures { ◌≡◌ {A = spec.Part}
         (record { answer = record { number = number.exit.now; place = 0 }; part = result.now })
-        (spec.link_grades_of k p (columns_before offsets numbers grades curves speeds powers districts)) }
+        (spec.link_grades_of k p (columns offsets.now numbers.now grades.now curves.now speeds.now powers.now districts.now)) }
 {
     let answer = part_answer(
         p, k, offsets, numbers, grades, curves, speeds, powers, districts,
@@ -124,7 +124,7 @@ pub fn link_curves<'a>(
 ) -> &'a [f64]
     ensures { ◌≡◌ {A = spec.Part}
         (record { answer = record { number = number.exit.now; place = 0 }; part = result.now })
-        (spec.link_curves_of k p (columns_before offsets numbers grades curves speeds powers districts)) }
+        (spec.link_curves_of k p (columns offsets.now numbers.now grades.now curves.now speeds.now powers.now districts.now)) }
 {
     let answer = part_answer(
         p, k, offsets, numbers, grades, curves, speeds, powers, districts,
@@ -149,7 +149,7 @@ pub fn link_range(
     powers: &[f64],
     districts: &[u32],
 ) -> RangeAnswer
-    ensures { result ≡ spec.link_range_of wants_curves k p (columns_before offsets numbers grades curves speeds powers districts) }
+    ensures { result ≡ spec.link_range_of wants_curves k p (columns offsets.now numbers.now grades.now curves.now speeds.now powers.now districts.now) }
 {
     let answer = part_answer(
         p, k, offsets, numbers, grades, curves, speeds, powers, districts,

@@ -1,6 +1,6 @@
 // `posted_speed`: the speed of the last speed point at or before an offset.
 ghost use Rattle.std.specs.Prelude.{◌≡◌};
-ghost use Rattle.path.specs.Records.{columns_before};
+ghost use Rattle.path.specs.Records.{columns};
 ghost use Rattle.path_posted.specs.Posted as spec;
 
 use path::answer::{asked, path_answer};
@@ -28,7 +28,7 @@ fn posted_answer(
     powers: &[f64],
     districts: &[u32],
 ) -> Answer
-    ensures { result ≡ spec.posted_answer x.0 p (columns_before offsets numbers grades curves speeds powers districts) }
+    ensures { result ≡ spec.posted_answer x.0 p (columns offsets.now numbers.now grades.now curves.now speeds.now powers.now districts.now) }
 {
     let finite = ieee::is_finite(x.0);
     let first = path_answer(
@@ -52,7 +52,7 @@ pub fn posted_speed(
     powers: &[f64],
     districts: &[u32],
 ) -> PostedAnswer
-    ensures { result ≡ spec.posted_of x.0 p (columns_before offsets numbers grades curves speeds powers districts) }
+    ensures { result ≡ spec.posted_of x.0 p (columns offsets.now numbers.now grades.now curves.now speeds.now powers.now districts.now) }
 {
     let answer = posted_answer(
         p, x, offsets, numbers, grades, curves, speeds, powers, districts,

@@ -3,7 +3,7 @@ ghost use Rattle.std.specs.Prelude.{◌≡◌, true, map, ◌<◌, length};
 ghost use Rattle.column.specs.Records.{records, record_at, put_record, four};
 ghost use Rattle.link.specs.Lists.{first_no};
 ghost use Rattle.link.specs.Questions as questions;
-ghost use Rattle.path.specs.Records.{columns_before, columns_after};
+ghost use Rattle.path.specs.Records.{columns};
 ghost use Rattle.path.specs.Answers.{Outcome, left};
 ghost use Rattle.path_reindex.specs.Reindex as spec;
 ghost use Rattle.path_reindex.specs.Fours as fours;
@@ -53,7 +53,7 @@ fn reindex_answer(
     powers: &[f64],
     districts: &[u32],
 ) -> Answer
-    ensures { result ≡ spec.reindex_answer new.now p (columns_before offsets numbers grades curves speeds powers districts) }
+    ensures { result ≡ spec.reindex_answer new.now p (columns offsets.now numbers.now grades.now curves.now speeds.now powers.now districts.now) }
 {
     let first = path_answer(
         p, true, offsets, numbers, grades, curves, speeds, powers, districts,
@@ -103,8 +103,8 @@ pub fn reindex(
     districts: &mut [u32],
 ) -> PathAnswer
     ensures { ◌≡◌ {A = Outcome}
-        (left result (columns_after offsets numbers grades curves speeds powers districts))
-        (spec.reindex_of new.now p (columns_before offsets numbers grades curves speeds powers districts)) }
+        (left result (columns offsets.new numbers.new grades.new curves.new speeds.new powers.new districts.new))
+        (spec.reindex_of new.now p (columns offsets.old numbers.old grades.old curves.old speeds.old powers.old districts.old)) }
 {
     let answer = reindex_answer(
         p,

@@ -13,7 +13,7 @@ use Rattle.link.specs.declared.speed_set.SetFound.TheVariants.{Found, Missing}
 use Rattle.link.specs.Lists.{every}
 use Rattle.link.specs.Train.{top_speed}
 use Rattle.link.specs.Condition.{applies}
-use Rattle.link.specs.Table.{Seen, Lent, LinkTable, Limit, set_at, set_for, conditions_of, limits_of}
+use Rattle.link.specs.Table.{LinkTable, Limit, set_at, set_for, conditions_of, limits_of}
 use Rattle.path.specs.declared.link_point.LinkPoint.{LinkPoint}
 use Rattle.path.specs.Records.{offset_of, number_of}
 
@@ -98,13 +98,6 @@ pub record SpeedSets : Type 0 where
 
 abbrev pub speed_sets : List ℕ → List ℕ → List Float → List Float → SpeedSets
 speed_sets places codes values limits = record { places = places; codes = codes; values = values; limits = limits }
-
--- the speed sets of a call: in a `requires`, and as they came
-abbrev pub speed_sets_now : Seen ℕ → Seen ℕ → Seen Float → Seen Float → SpeedSets
-speed_sets_now places codes values limits = speed_sets places.now codes.now values.now limits.now
-
-abbrev pub speed_sets_before : Lent ℕ → Lent ℕ → Lent Float → Lent Float → SpeedSets
-speed_sets_before places codes values limits = speed_sets_now places.entry codes.entry values.entry limits.entry
 
 abbrev pub sets_of : LinkTable → SpeedSets
 sets_of t = speed_sets t.sets t.codes t.values t.limits

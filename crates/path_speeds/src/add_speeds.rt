@@ -26,8 +26,8 @@ pub fn link_finite(
     train: TrainParams,
 ) -> bool
     requires i_bound { i < 2 ^ 40 }
-    requires i_value { spec.few_at train (spec.speed_sets_now sets codes values limits) i ≡ true }
-    ensures { result ≡ spec.finite_at train length.0 (spec.speed_sets_before sets codes values limits) base.0 i }
+    requires i_value { spec.few_at train (spec.speed_sets sets.now codes.now values.now limits.now) i ≡ true }
+    ensures { result ≡ spec.finite_at train length.0 (spec.speed_sets sets.now codes.now values.now limits.now) base.0 i }
 {
     let SetFound::Found(s) = applying_set(sets, codes, values, i, train) else {
         return true;
@@ -45,8 +45,8 @@ pub fn link_limit_count(
     train: TrainParams,
 ) -> usize
     requires i_bound { i < 2 ^ 40 }
-    requires i_value { spec.few_at train (spec.speed_sets_now sets codes values limits) i ≡ true }
-    ensures { result ≡ spec.count_at train (spec.speed_sets_before sets codes values limits) i }
+    requires i_value { spec.few_at train (spec.speed_sets sets.now codes.now values.now limits.now) i ≡ true }
+    ensures { result ≡ spec.count_at train (spec.speed_sets sets.now codes.now values.now limits.now) i }
 {
     let SetFound::Found(s) = applying_set(sets, codes, values, i, train) else {
         return 0;
@@ -69,11 +69,11 @@ pub fn add_speeds(
 ) -> usize
     requires n_nonzero { 0 < n }
     requires i_bound { i < 2 ^ 40 }
-    requires i_value { spec.few_at train (spec.speed_sets_now sets codes values limits) i ≡ true }
-    requires i_bound_2 { 2 * (n + 2 * spec.count_at train (spec.speed_sets_now sets codes values limits) i) ≤ list.length col.old }
+    requires i_value { spec.few_at train (spec.speed_sets sets.now codes.now values.now limits.now) i ≡ true }
+    requires i_bound_2 { 2 * (n + 2 * spec.count_at train (spec.speed_sets sets.now codes.now values.now limits.now) i) ≤ list.length col.old }
     requires holds { Holds col.old (points n col.old) }
     ensures { Leaves col.new result
-        (spec.lay_all (points n col.old) (spec.laying_at train length.0 (spec.speed_sets_before sets codes values limits) base.0 i)) }
+        (spec.lay_all (points n col.old) (spec.laying_at train length.0 (spec.speed_sets sets.now codes.now values.now limits.now) base.0 i)) }
 {
     let SetFound::Found(s) = applying_set(sets, codes, values, i, train) else {
         return n;
@@ -93,10 +93,11 @@ pub fn points_finite(
     length: Length,
     train: TrainParams,
 ) -> Judged
-    requires { every (spec.point_few train (spec.speed_sets_now sets codes values limits)) (up_from (point_at offsets.now numbers.now) 0 count) ≡ true }
+    requires { every (spec.point_few train (spec.speed_sets sets.now codes.now values.now limits.now))
+        (up_from (point_at offsets.now numbers.now) 0 count) ≡ true }
     ensures { result ≡ first_no
         (map
-        (spec.point_finite train length.0 (spec.speed_sets_before sets codes values limits))
+        (spec.point_finite train length.0 (spec.speed_sets sets.now codes.now values.now limits.now))
         (up_from (point_at offsets.now numbers.now) 0 count)) }
 {
     let mut k = 0;
@@ -124,9 +125,10 @@ pub fn points_count(
     train: TrainParams,
 ) -> usize
     requires count_bound { count ≤ 1025 }
-    requires count_value { every (spec.point_few train (spec.speed_sets_now sets codes values limits)) (up_from (point_at offsets.now numbers.now) 0 count) ≡ true }
+    requires count_value { every (spec.point_few train (spec.speed_sets sets.now codes.now values.now limits.now))
+        (up_from (point_at offsets.now numbers.now) 0 count) ≡ true }
     ensures { result ≡ total
-        (spec.point_count train (spec.speed_sets_before sets codes values limits))
+        (spec.point_count train (spec.speed_sets sets.now codes.now values.now limits.now))
         (up_from (point_at offsets.now numbers.now) 0 count) }
 {
     let mut n = 0;
@@ -156,13 +158,15 @@ pub fn lay_links(
 ) -> usize
     requires n_nonzero { 0 < n }
     requires count_bound { first + count ≤ 1025 }
-    requires count_value { every (spec.point_few train (spec.speed_sets_now sets codes values limits)) (up_from (point_at offsets.now numbers.now) first count) ≡ true }
+    requires count_value { every (spec.point_few train (spec.speed_sets sets.now codes.now values.now limits.now))
+        (up_from (point_at offsets.now numbers.now) first count) ≡ true }
     requires count_bound_2 { 2 *
-        (n + 2 * total (spec.point_count train (spec.speed_sets_now sets codes values limits)) (up_from (point_at offsets.now numbers.now) first count))
+        (n + 2 * total (spec.point_count train (spec.speed_sets sets.now codes.now values.now limits.now))
+        (up_from (point_at offsets.now numbers.now) first count))
         ≤ list.length col.old }
     requires holds { Holds col.old (points n col.old) }
     ensures { Leaves col.new result
-        (spec.lay_links train length.0 (spec.speed_sets_before sets codes values limits) (points n col.old)
+        (spec.lay_links train length.0 (spec.speed_sets sets.now codes.now values.now limits.now) (points n col.old)
         (up_from (point_at offsets.now numbers.now) first count)) }
 {
     let mut m = n;

@@ -3,11 +3,11 @@ ghost use Rattle.std.specs.Prelude.{◌≡◌, true, ◌+◌, ◌*◌, ◌≤◌
 ghost use Rattle.std.proofs.Math.ListN as list;
 ghost use Rattle.speed.specs.Column.{Leaves};
 ghost use Rattle.link.specs.Lists.{every, up_from};
-ghost use Rattle.link.specs.Table.{table_before};
-ghost use Rattle.path.specs.Records.{columns_before, columns_after, point_at};
+ghost use Rattle.link.specs.Table.{table_of};
+ghost use Rattle.path.specs.Records.{columns, point_at};
 ghost use Rattle.path.specs.Answers.{Outcome, left};
 ghost use Rattle.path.specs.Sound.{total};
-ghost use Rattle.path_speeds.specs.Limits.{speed_sets_now, speed_sets_before, point_few, point_count};
+ghost use Rattle.path_speeds.specs.Limits.{speed_sets, point_few, point_count};
 ghost use Rattle.path_speeds.specs.Recalc as spec;
 
 use crate::add_speeds::{lay_links, points_count, points_finite};
@@ -37,8 +37,9 @@ fn limits_answer(
     train: TrainParams,
 ) -> Answer
     requires count_bound { count ≤ 1025 }
-    requires count_value { every (point_few train (speed_sets_now sets codes values limits)) (up_from (point_at offsets.now numbers.now) 0 count) ≡ true }
-    ensures { result ≡ spec.limits_answer train own.0 (speed_sets_before sets codes values limits)
+    requires count_value { every (point_few train (speed_sets sets.now codes.now values.now limits.now))
+        (up_from (point_at offsets.now numbers.now) 0 count) ≡ true }
+    ensures { result ≡ spec.limits_answer train own.0 (speed_sets sets.now codes.now values.now limits.now)
         (up_from (point_at offsets.now numbers.now) 0 count) (list.length speeds.now) }
 {
     let sums = points_finite(
@@ -78,8 +79,8 @@ fn recalc_answer(
     link_districts: &[u32],
 ) -> Answer
     ensures { result ≡ spec.recalc_answer train
-        (table_before links lengths sets elevs headings limits codes values link_powers link_districts) p
-        (columns_before offsets numbers grades curves speeds powers districts) }
+        (table_of links.now lengths.now sets.now elevs.now headings.now limits.now codes.now values.now link_powers.now link_districts.now) p
+        (columns offsets.now numbers.now grades.now curves.now speeds.now powers.now districts.now) }
 {
     let first = path_answer(
         p,
@@ -137,12 +138,13 @@ fn lay_anew(
     train: TrainParams,
 ) -> usize
     requires count_bound { count ≤ 1025 }
-    requires count_value { every (point_few train (speed_sets_now sets codes values limits)) (up_from (point_at offsets.now numbers.now) 0 count) ≡ true }
+    requires count_value { every (point_few train (speed_sets sets.now codes.now values.now limits.now))
+        (up_from (point_at offsets.now numbers.now) 0 count) ≡ true }
     requires count_bound_2 { 2 *
-        (1 + 2 * total (point_count train (speed_sets_now sets codes values limits)) (up_from (point_at offsets.now numbers.now) 0 count)) ≤
+        (1 + 2 * total (point_count train (speed_sets sets.now codes.now values.now limits.now)) (up_from (point_at offsets.now numbers.now) 0 count)) ≤
         list.length speeds.old }
     ensures { Leaves speeds.new result
-        (spec.laid_anew train own.0 (speed_sets_before sets codes values limits)
+        (spec.laid_anew train own.0 (speed_sets sets.now codes.now values.now limits.now)
         (up_from (point_at offsets.now numbers.now) 0 count) (point_at offsets.now numbers.now 0)) }
 {
     let begin = column::floats::get(offsets, 0);
@@ -187,10 +189,10 @@ pub fn recalc_speeds(
     link_districts: &[u32],
 ) -> PathAnswer
     ensures { ◌≡◌ {A = Outcome}
-        (left result (columns_after offsets numbers grades curves speeds powers districts))
+        (left result (columns offsets.new numbers.new grades.new curves.new speeds.new powers.new districts.new))
         (spec.recalc_of train
-        (table_before links lengths sets elevs headings limits codes values link_powers link_districts) p
-        (columns_before offsets numbers grades curves speeds powers districts)) }
+        (table_of links.now lengths.now sets.now elevs.now headings.now limits.now codes.now values.now link_powers.now link_districts.now) p
+        (columns offsets.old numbers.old grades.old curves.old speeds.old powers.old districts.old)) }
 {
     let answer = recalc_answer(
         p,

@@ -1,7 +1,7 @@
 // The links where a train's front and back stand, by value.
 ghost use Rattle.std.specs.Prelude.{◌≡◌, cond, false, ◌<◌};
 ghost use Rattle.std.specs.Float.Ieee.Scale.{finite};
-ghost use Rattle.path.specs.Records.{columns_before, link_points};
+ghost use Rattle.path.specs.Records.{columns, link_points};
 ghost use Rattle.path.specs.Answers.{ask};
 ghost use Rattle.train.specs.Locate as spec;
 
@@ -89,7 +89,7 @@ pub fn locate(
     powers: &[f64],
     districts: &[u32],
 ) -> Located
-    ensures { result ≡ spec.locate_of state path (columns_before offsets numbers grades curves speeds powers districts) }
+    ensures { result ≡ spec.locate_of state path (columns offsets.now numbers.now grades.now curves.now speeds.now powers.now districts.now) }
 {
     let finite = state_finite(state);
     let first = path_answer(

@@ -1,6 +1,6 @@
 // `set_link_and_offset`: the position record is lent, and its three link fields are written.
 ghost use Rattle.std.specs.Prelude.{◌≡◌};
-ghost use Rattle.path.specs.Records.{columns_before};
+ghost use Rattle.path.specs.Records.{columns};
 ghost use Rattle.train.specs.Locate.{locate_of, placed};
 
 use crate::locate::locate;
@@ -27,9 +27,9 @@ pub fn set_link_and_offset(
     powers: &[f64],
     districts: &[u32],
 ) -> Answer
-    ensures { (result ≡ (locate_of state.old path (columns_before offsets numbers grades curves speeds powers districts)).answer)
+    ensures { (result ≡ (locate_of state.old path (columns offsets.now numbers.now grades.now curves.now speeds.now powers.now districts.now)).answer)
         × (state.new ≡ placed state.old
-        (locate_of state.old path (columns_before offsets numbers grades curves speeds powers districts))) }
+        (locate_of state.old path (columns offsets.now numbers.now grades.now curves.now speeds.now powers.now districts.now))) }
 {
     let s = *state;
     let r = locate(
@@ -53,8 +53,8 @@ pub fn with_link_and_offset(
     powers: &[f64],
     districts: &[u32],
 ) -> StateAnswer
-    ensures { (result.answer ≡ (locate_of state path (columns_before offsets numbers grades curves speeds powers districts)).answer)
-        × (result.state ≡ placed state (locate_of state path (columns_before offsets numbers grades curves speeds powers districts))) }
+    ensures { (result.answer ≡ (locate_of state path (columns offsets.now numbers.now grades.now curves.now speeds.now powers.now districts.now)).answer)
+        × (result.state ≡ placed state (locate_of state path (columns offsets.now numbers.now grades.now curves.now speeds.now powers.now districts.now))) }
 {
     let answer = set_link_and_offset(
         &mut state, path, offsets, numbers, grades, curves, speeds, powers, districts,

@@ -3,7 +3,7 @@ ghost use Rattle.std.specs.Prelude.{◌≡◌, min, [], ◌∷◌};
 ghost use Rattle.link.specs.declared.speed_set.SetFound.TheVariants.{Found};
 ghost use Rattle.link.specs.Train.{length_of, top_speed};
 ghost use Rattle.link.specs.Table.{limit_of};
-ghost use Rattle.path_speeds.specs.Limits.{speed_sets_before};
+ghost use Rattle.path_speeds.specs.Limits.{speed_sets};
 ghost use Rattle.view.specs.History as spec;
 
 use column::{Three, Two};
@@ -137,7 +137,7 @@ fn add_link(
     n: usize,
 ) -> usize
     ensures { spec.laid_up_to boards.new tags.new result
-        ≡ spec.with_more boards.old tags.old n (spec.point_lays train (speed_sets_before sets codes values limits) p) }
+        ≡ spec.with_more boards.old tags.old n (spec.point_lays train (speed_sets sets.now codes.now values.now limits.now) p) }
 {
     let number = p.link_idx;
     let found = applying(sets, codes, values, number, train);
@@ -173,7 +173,7 @@ pub fn add_links(
 ) -> usize
     ensures { spec.laid_up_to boards.new tags.new result
         ≡ spec.with_more boards.old tags.old n
-        (spec.lay_from_to train (speed_sets_before sets codes values limits) offsets.now numbers.now from to) }
+        (spec.lay_from_to train (speed_sets sets.now codes.now values.now limits.now) offsets.now numbers.now from to) }
 {
     let mut m = fewer(n, room(&*boards, &*tags));
     let mut k = from;

@@ -16,6 +16,8 @@ use Rattle.speed.proofs.PointColumn.{length-points, leaves_at}
 use Rattle.speed.proofs.InsertSteps.{length_inserted, between-laid, between-kept}
 use borrow.Author.Tests.{not-true, not-false}
 use borrow.Author.Rules.{rules}
+use mathlib.Core.Path.{ap}
+use mathlib.Core.Bool.{not}
 use Rattle.speed.proofs.insert_speed.lay_between.Goals as goal
 
 -- the speed before, and the smaller of it and the limit's, as they were read
@@ -38,7 +40,7 @@ returns-then-not-s-e c =
     let v = a.l.speed.0 in
     let u = c.speed_at-was.result.0 in
     let w = c.min_speed-low.result.0 in
-    let same = tested s e v a.i ps u w c.speed_at-was.ensures c.min_speed-low.ensures ∙ not-true (Ieee.lt s e && Ieee.ne u w) c.if-not-s-e.true-raw in
+    let same = tested s e v a.i ps u w c.speed_at-was.ensures c.min_speed-low.ensures ∙ not-true (Ieee.lt s e && Ieee.ne u w) (ap not c.if-not-s-e.true) in
     leaves_at a.col.now a.n ps (lay_between s e v a.i ps) (record { count = sym (length-points a.n a.col.now); holds = c.requires.holds })
     (sym (between-kept s e v a.i ps same))
 
@@ -59,6 +61,6 @@ returns c =
     let one = insert_at a.i (point e u) ps in
     let qs = insert_at a.i (point s w) one in
     let count : a.n + 2 ≡ length qs = omega (arith, length_inserted a.i (point s w) one, length_inserted a.i (point e u) ps, length-points a.n a.col.now) in
-    let there = tested s e v a.i ps u w was low ∙ not-false (Ieee.lt s e && Ieee.ne u w) c.if-not-s-e.false-raw in
+    let there = tested s e v a.i ps u w was low ∙ not-false (Ieee.lt s e && Ieee.ne u w) (ap not c.if-not-s-e.false) in
     leaves_at c.insert_two.new.col (a.n + 2) qs (lay_between s e v a.i ps) (record { count = count; holds = c.insert_two.ensures })
     (split s e v a.i ps u w was low there)

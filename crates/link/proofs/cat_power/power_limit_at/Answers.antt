@@ -1,0 +1,6 @@
+-- `power_limit_at`: the three entries and the district under their names.
+use Rattle.std.proofs.Common.{rules}
+use Rattle.link.proofs.cat_power.power_limit_at.Goals as goal
+
+pub returns : goal.returns
+returns c = rw (c.three_at-t.ensures, c.get.ensures)

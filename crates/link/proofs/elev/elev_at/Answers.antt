@@ -1,0 +1,6 @@
+-- `elev_at`: the two entries under their names.
+use Rattle.std.proofs.Common.{rules}
+use Rattle.link.proofs.elev.elev_at.Goals as goal
+
+pub returns : goal.returns
+returns c = rw c.sample_at-t.ensures

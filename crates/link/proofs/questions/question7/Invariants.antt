@@ -1,0 +1,14 @@
+-- `question7`: from k on the first no is that of the whole list.
+use Rattle.std.proofs.Common.{◌≡◌, ℕ, ◌-◌, Bool, map, sym, ◌∙◌, arith, rules}
+use native.Mathlib.Nat.{sub-zero}
+use Rattle.link.specs.Lists.{up_from, first_no_from}
+use Rattle.link.specs.Questions.{has_set, number_at, numbers, question7}
+use Rattle.link.proofs.Formed.{set-none, set-some}
+use Rattle.link.proofs.Loops.{first-pass, first-fail, first-end}
+use Rattle.link.proofs.questions.question7.Given as goal
+
+abbrev pub invariant-loop-k : goal.invariant-loop-k
+invariant-loop-k l = first_no_from l.k (map (has_set l.sets l.t) (up_from (number_at l.points l.list) l.k (l.count - l.k))) ≡ question7 l.sets l.t (numbers l.points l.list l.count)
+
+abbrev pub decreases-loop-k : goal.decreases-loop-k
+decreases-loop-k l = l.count - l.k

@@ -1,0 +1,44 @@
+-- `follow`: by whether there are points, and room for two more.
+use mathlib.Core.Path.{sym, ap₂, ◌∙◌}
+use mathlib.Core.List.{[]}
+use native.Mathlib.Omega.{arith}
+use lib.ListN.{length}
+use Rattle.column.specs.declared.Two.{Two}
+use Rattle.column.specs.declared.Three.{Three}
+use Rattle.column.specs.Records.{record_at, three, two}
+use Rattle.speed.specs.Column.{points}
+use Rattle.speed.proofs.PointColumn.{length-points, fits-points, leaves_at}
+use Rattle.original.specs.Original.{insert_original, follow}
+use Rattle.original.proofs.Followed.{none-held, none_kept, follow-none, follow-full, follow_one}
+use borrow.Author.Rules.{rules}
+use Rattle.original.proofs.run.follow.Goals as goal
+
+pub returns-then-m-eq0 : goal.returns-then-m-eq0
+returns-then-m-eq0 c =
+    let a = c.args in
+    let ps = points a.m a.col.now in
+    leaves_at a.col.now 0 [] _ (none_kept a.col.now a.m c.if-m-eq0.true c.requires)
+    (sym (follow-none (length a.col.now) ps _ _ _ (length-points a.m a.col.now ∙ c.if-m-eq0.true)))
+
+pub overflow_add-m : goal.overflow_add-m
+overflow_add-m c = omega (arith, fits-points c.args.col.now c.args.m c.requires)
+
+pub returns-then-col-m : goal.returns-then-col-m
+returns-then-col-m c =
+    let a = c.args in
+    let ps = points a.m a.col.now in
+    let l = length-points a.m a.col.now in
+    leaves_at c.zero_from.new.col 0 [] _ (none-held a.col.now c.zero_from.new.col c.zero_from.ensures)
+    (sym (follow-full (length a.col.now) ps _ _ _ (omega arith) (omega arith)))
+
+pub insert_as_original-requires : goal.insert_as_original-requires
+insert_as_original-requires c = record { n_nonzero = omega arith; n_in_bounds = omega arith; holds = c.requires }
+
+pub returns : goal.returns
+returns c =
+    let a = c.args in
+    let ps = points a.m a.col.now in
+    let l = length-points a.m a.col.now in
+    leaves_at c.insert_as_original.new.col c.insert_as_original.result _ _ c.insert_as_original.ensures
+    (ap₂ (λ (b : Three) (t : Two). insert_original ps b.0 b.2 t.0) c.three_at-b.ensures c.two_at-t.ensures
+    ∙ sym (follow_one (length a.col.now) ps _ _ _ (omega arith) (omega arith)))

@@ -1,0 +1,16 @@
+-- `counts_lead`: before point i stand the sums, which are its first records, and the answer for the points before it.
+use Prim.Native.Nat.{◌-◌}
+use native.Mathlib.Omega.{arith}
+use mathlib.Core.Path.{sym}
+use Rattle.lookup.specs.Coeff.{coeffs}
+use Rattle.path.specs.Records.{grade_count_of, curve_count_of, power_count_of}
+use Rattle.path.proofs.Counts.{counts-small, counted-small, counted-fits}
+use Rattle.path.proofs.Lead.{Led, led-none, led-more, grades-over, curves-over, led-all}
+use Rattle.path.proofs.sound.counts_lead.Given as goal
+
+abbrev pub invariant-loop-i : goal.invariant-loop-i
+invariant-loop-i l =
+    Led l.p (coeffs l.p.grade_count l.grades) (coeffs l.p.curve_count l.curves) l.offsets l.numbers l.i l.g l.k l.w l.ok
+
+abbrev pub decreases-loop-i : goal.decreases-loop-i
+decreases-loop-i l = l.p.link_count - l.i

@@ -1,0 +1,17 @@
+-- `drop_from`: the link points that are passed and those that still are to go make up the answer.
+use Prim.Native.Nat.{◌+◌, ◌-◌, ◌<◌}
+use native.Mathlib.Omega.{arith}
+use mathlib.Core.Path.{◌≡◌}
+use mathlib.Core.Bool.{true, false}
+use borrow.Author.Tests.{not-true, not-false}
+use lib.ListN.{get_or}
+use lib.Ieee as Ieee
+use Rattle.ieee.specs.Number.{+0}
+use Rattle.path_clear.proofs.Gone.{Behind, behind-first, behind_more, behind-stop, behind-all}
+use Rattle.path_clear.proofs.clear_each.drop_from.Given as goal
+
+abbrev pub invariant-loop-i : goal.invariant-loop-i
+invariant-loop-i l = (l.i < l.n) × ((h : l.from < l.n) → Behind l.x l.offsets l.numbers l.n l.from h l.i)
+
+abbrev pub decreases-loop-i : goal.decreases-loop-i
+decreases-loop-i l = l.n - l.i

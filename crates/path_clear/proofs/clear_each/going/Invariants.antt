@@ -1,0 +1,18 @@
+-- `going`: the trims that are left, from the first link point that stays on, give the answer of the whole list.
+use Prim.Native.Nat.{◌-◌, ◌≤◌, ◌<◌}
+use native.Mathlib.Omega.{arith}
+use mathlib.Core.Path.{◌≡◌, refl}
+use borrow.Author.Rules.{rules}
+use lib.ListN.{length, drop}
+use Rattle.path.specs.Records.{link_points}
+use Rattle.path.proofs.LinkPoints.{length-links}
+use Rattle.path_clear.specs.TrimsByPoints.{going_of}
+use Rattle.path_clear.proofs.Gone.{going-all, going-refused, going_next, next-below}
+use Rattle.path_clear.proofs.clear_each.going.Given as goal
+
+abbrev pub invariant-loop-k : goal.invariant-loop-k
+invariant-loop-k l =
+    (l.k ≤ length l.xs) × (l.gone < l.n) × (going_of l.gone l.k (drop l.k l.xs) (link_points l.n l.offsets l.numbers) ≡ going_of 0 0 l.xs (link_points l.n l.offsets l.numbers))
+
+abbrev pub decreases-loop-k : goal.decreases-loop-k
+decreases-loop-k l = length l.xs - l.k

@@ -1,0 +1,21 @@
+-- `lay_links`: what is left to lay from point k on gives what was to be laid at first.
+use Prim.Native.Nat.{◌+◌, ◌-◌}
+use native.Mathlib.Omega.{arith}
+use mathlib.Core.Path.{◌≡◌, ap, ◌∙◌}
+use mathlib.Core.Bool.{true}
+use Rattle.link.specs.Lists.{every, up_from}
+use Rattle.path.specs.Records.{point_at}
+use Rattle.speed.specs.Column.{points}
+use Rattle.link.proofs.Loops.{whole-range, range_none, range-next}
+use Rattle.path.specs.Sound.{total}
+use Rattle.path_speeds.specs.Limits.{speed_sets, point_few, point_count, lay_links}
+use Rattle.path_speeds.proofs.LayingLoop.{going-first}
+use Rattle.path_speeds.proofs.LinkLimits.{LinksLeft, links-room, links-next, links-done}
+use Rattle.link.proofs.Known.{every-next}
+use Rattle.path_speeds.proofs.add_speeds.lay_links.Given as goal
+
+abbrev pub invariant-loop-k : goal.invariant-loop-k
+invariant-loop-k l = (every (point_few l.train (speed_sets l.sets l.codes l.values l.limits)) (up_from (point_at l.offsets l.numbers) l.k (l.first + l.count - l.k)) ≡ true) × LinksLeft l.train l.length.0 (speed_sets l.sets l.codes l.values l.limits) l.initial.col (lay_links l.train l.length.0 (speed_sets l.sets l.codes l.values l.limits) (points l.n l.initial.col) (up_from (point_at l.offsets l.numbers) l.first l.count)) (up_from (point_at l.offsets l.numbers) l.k (l.first + l.count - l.k)) l.col l.m
+
+abbrev pub decreases-loop-k : goal.decreases-loop-k
+decreases-loop-k l = l.first + l.count - l.k

@@ -1,0 +1,20 @@
+-- `points_count`: the counts from point k on and the sum before are the sum of all.
+use Prim.Native.Nat.{◌+◌, ◌-◌, ◌*◌, ◌^◌, ◌≤◌}
+use native.Mathlib.Nat.{sub-zero}
+use native.Mathlib.Omega.{arith}
+use mathlib.Core.Path.{◌≡◌, ap, ◌∙◌}
+use mathlib.Core.Bool.{true}
+use Rattle.link.specs.Lists.{every, up_from}
+use Rattle.path.specs.Records.{point_at}
+use Rattle.path.specs.Sound.{total}
+use Rattle.path_speeds.specs.Limits.{speed_sets, point_few, point_count}
+use Rattle.path_speeds.proofs.Applying.{count_small}
+use Rattle.link.proofs.Known.{every-next}
+use Rattle.path.proofs.Counts.{range-total, range-total-end}
+use Rattle.path_speeds.proofs.add_speeds.points_count.Given as goal
+
+abbrev pub invariant-loop-k : goal.invariant-loop-k
+invariant-loop-k l = (every (point_few l.train (speed_sets l.sets l.codes l.values l.limits)) (up_from (point_at l.offsets l.numbers) l.k (l.count - l.k)) ≡ true) × (l.n ≤ l.k * 2 ^ 32) × (l.n + total (point_count l.train (speed_sets l.sets l.codes l.values l.limits)) (up_from (point_at l.offsets l.numbers) l.k (l.count - l.k)) ≡ total (point_count l.train (speed_sets l.sets l.codes l.values l.limits)) (up_from (point_at l.offsets l.numbers) 0 l.count))
+
+abbrev pub decreases-loop-k : goal.decreases-loop-k
+decreases-loop-k l = l.count - l.k

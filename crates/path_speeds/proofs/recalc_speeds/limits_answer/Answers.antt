@@ -1,0 +1,39 @@
+-- `limits_answer`: question 8, and then question 9.
+use Prim.Native.Nat.{ℕ, ◌+◌, ◌*◌, ◌/◌}
+use native.Mathlib.Omega.{arith}
+use mathlib.Core.Path.{sym, ap, ◌∙◌}
+use lib.ListN.{length}
+use Rattle.link.specs.Lists.{up_from}
+use Rattle.path.specs.Records.{point_at, is_within_all}
+use Rattle.path.specs.Answers.{ask, ask_each}
+use Rattle.path_speeds.specs.Limits.{speed_sets}
+use Rattle.path_speeds.proofs.Recalced.{few-laid, limits-8, limits-9}
+use borrow.Author.Rules.{rules}
+use Rattle.path_speeds.proofs.recalc_speeds.limits_answer.Goals as goal
+
+pub returns-then-first-ne0 : goal.returns-then-first-ne0
+returns-then-first-ne0 c =
+    let a = c.args in
+    let q = speed_sets a.sets.now a.codes.now a.values.now a.limits.now in
+    let present = up_from (point_at a.offsets.now a.numbers.now) 0 a.count in
+    sym (limits-8 a.train a.own.0 q present (length a.speeds.now) (c.asked_each-first.ensures ∙ ap (ask_each 8) c.points_finite-sums.ensures) c.if-first-ne0.true)
+
+pub overflow_mul-laid : goal.overflow_mul-laid
+overflow_mul-laid c =
+    let a = c.args in
+    let q = speed_sets a.sets.now a.codes.now a.values.now a.limits.now in
+    record { fits = omega (arith, c.requires.count_bound, c.points_count-laid.ensures, few-laid a.train q (point_at a.offsets.now a.numbers.now) a.count c.type_inv.sets) }
+
+pub overflow_add-laid : goal.overflow_add-laid
+overflow_add-laid c =
+    let a = c.args in
+    let q = speed_sets a.sets.now a.codes.now a.values.now a.limits.now in
+    record { fits = omega (arith, c.requires.count_bound, c.points_count-laid.ensures, few-laid a.train q (point_at a.offsets.now a.numbers.now) a.count c.type_inv.sets) }
+
+pub returns : goal.returns
+returns c =
+    let a = c.args in
+    let q = speed_sets a.sets.now a.codes.now a.values.now a.limits.now in
+    let present = up_from (point_at a.offsets.now a.numbers.now) 0 a.count in
+    let n = length a.speeds.now in
+    c.asked.ensures ∙ ap (ask 9) (c.within.ensures ∙ ap (λ (k : ℕ). is_within_all (1 + 2 * k) 4096 (n / 2) (n / 2)) c.points_count-laid.ensures) ∙ sym (limits-9 a.train a.own.0 q present n (c.asked_each-first.ensures ∙ ap (ask_each 8) c.points_finite-sums.ensures) c.if-first-ne0.false)
