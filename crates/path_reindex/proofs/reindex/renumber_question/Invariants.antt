@@ -1,0 +1,19 @@
+-- `renumber_question`: from k on the first no is that of all the points.
+use Prim.Native.Nat.{◌-◌}
+use native.Mathlib.Nat.{sub-zero}
+use native.Mathlib.Omega.{arith}
+use mathlib.Core.Path.{◌≡◌, sym, ◌∙◌}
+use mathlib.Core.Bool.{true}
+use mathlib.Core.List.{map}
+use Rattle.link.specs.Lists.{up_from, first_no, first_no_from}
+use Rattle.link.specs.Questions.{number_at, numbers}
+use Rattle.link.proofs.Judging.{said-no-of, said-yes-of}
+use Rattle.link.proofs.Loops.{first-pass, first-fail, first-end}
+use Rattle.path_reindex.specs.Reindex.{renumbers}
+use Rattle.path_reindex.proofs.reindex.renumber_question.Given as goal
+
+abbrev pub invariant-loop-k : goal.invariant-loop-k
+invariant-loop-k l = first_no_from l.k (map (renumbers l.new) (up_from (number_at true l.numbers) l.k (l.count - l.k))) ≡ first_no (map (renumbers l.new) (numbers true l.numbers l.count))
+
+abbrev pub decreases-loop-k : goal.decreases-loop-k
+decreases-loop-k l = l.count - l.k

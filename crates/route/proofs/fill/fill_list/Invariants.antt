@@ -1,0 +1,16 @@
+-- `fill_list`: one number a turn; the column so far with what is still to come is the column filled.
+use borrow.Author.Rules.{rules}
+use Prim.Native.Nat.{◌+◌, ◌-◌, ◌≤◌}
+use native.Mathlib.Omega.{arith}
+use lib.ListN.{length, length-set}
+use mathlib.Core.Path.{◌≡◌, refl, sym, ◌∙◌}
+use Rattle.route.specs.Filled.{listed, list_length}
+use Rattle.route.proofs.Filled.{field-missing, field-there, whole, count, whole-end, count-end, whole-stop, count-stop, whole-next, count_next}
+use Rattle.route.proofs.fill.fill_list.Given as goal
+
+abbrev pub invariant-loop-i : goal.invariant-loop-i
+invariant-loop-i l =
+    (whole l.text l.at l.col l.i ≡ listed l.text l.at 0 l.initial.col) × (count l.text l.at l.col l.i ≡ list_length l.text l.at 0 l.initial.col) × (length l.col ≡ length l.initial.col) × (l.i ≤ length l.col)
+
+abbrev pub decreases-loop-i : goal.decreases-loop-i
+decreases-loop-i l = length l.col - l.i

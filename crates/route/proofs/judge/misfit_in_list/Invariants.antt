@@ -1,0 +1,15 @@
+-- `misfit_in_list`: the first misfit from field i + 1 on is the first of all.
+use borrow.Author.Rules.{rules}
+use Prim.Native.Nat.{◌+◌, ◌-◌, ◌≤◌}
+use native.Mathlib.Omega.{arith}
+use mathlib.Core.Path.{◌≡◌, refl, ◌∙◌}
+use Rattle.route.specs.Forms.{list_misfit_from}
+use Rattle.route.proofs.Filled.{field-missing, field-there}
+use Rattle.route.proofs.Forms.{list-stop, list-next, list-here, list-none, list-more}
+use Rattle.route.proofs.judge.misfit_in_list.Given as goal
+
+abbrev pub invariant-loop-i : goal.invariant-loop-i
+invariant-loop-i l = (list_misfit_from l.text l.at (l.i + 1) (1025 - l.i) ≡ list_misfit_from l.text l.at 1 1025) × (l.i ≤ 1025)
+
+abbrev pub decreases-loop-i : goal.decreases-loop-i
+decreases-loop-i l = 1025 - l.i

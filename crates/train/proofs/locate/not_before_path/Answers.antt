@@ -1,0 +1,9 @@
+-- `not_before_path`: the first link point.
+use Rattle.train.proofs.Behind.{not-before}
+use borrow.Author.Rules.{rules}
+use Rattle.train.proofs.locate.not_before_path.Goals as goal
+
+pub returns : goal.returns
+returns c =
+    let a = c.args in
+    not-before a.offsets.now a.numbers.now a.n a.s c.requires c.get-first.ensures
