@@ -1,2 +1,3 @@
 // Links joined to a path's end.
+#![tactic(auto)]
 pub mod extend; // path_tpc.rs: the call

@@ -25,9 +25,9 @@ struct Asked {
 // The descriptor of errors.
 fn err_of(a: Asked) -> i32 {
     if a.together {
-        return libc::STDOUT_FILENO;
+        return show::STDOUT_FILENO;
     }
-    libc::STDERR_FILENO
+    show::STDERR_FILENO
 }
 
 // Judges a text; runs it where every line can be read.
@@ -71,7 +71,7 @@ fn plan_open(to: To, clock: Clock, fd: i32, name: &[u8]) -> u32 {
 // A file; its status.
 fn plan_file(a: Asked, name: &[u8]) -> u32 {
     let to = To {
-        out: if a.svg { -1 } else { libc::STDOUT_FILENO },
+        out: if a.svg { -1 } else { show::STDOUT_FILENO },
         err: err_of(a),
     };
     let clock = Clock {
@@ -116,7 +116,7 @@ fn option(a: Asked, name: &[u8]) -> Asked {
     } else if is_word(name, b"--progress") {
         r.progress = true;
     } else if is_word(name, b"--help") {
-        usage(libc::STDOUT_FILENO);
+        usage(show::STDOUT_FILENO);
         r.files = 1;
     } else {
         files::wrong(err_of(a), name, b"unknown option; --help tells the options");

@@ -93,6 +93,6 @@ fn run_bytes(text: &[u8], n: usize) {
 
 fn main() {
     let mut text = [0u8; 100000];
-    let n = io::read_full(libc::STDIN_FILENO, &mut text);
+    let n = io::read_full(show::STDIN_FILENO, &mut text);
     run_bytes(&text, n);
 }

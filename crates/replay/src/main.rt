@@ -101,7 +101,7 @@ fn with_columns(w: &[u64], n: usize) {
 
 fn main() {
     let mut text = [0u8; 400000];
-    let got = io::read_full(libc::STDIN_FILENO, &mut text);
+    let got = io::read_full(show::STDIN_FILENO, &mut text);
     let mut w = [0u64; 100000];
     let n = words::words_of(&text, got, &mut w);
     with_columns(&w, n);

@@ -1,6 +1,6 @@
 // What is printed: an answer, its values, and the lists of a path.
 use crate::columns::{Curves, Districts, Grades, Numbers, Offsets, Powers, Speeds};
-use libc::STDOUT_FILENO;
+use show::STDOUT_FILENO;
 use path::link_point::link_point_at;
 use path::path_tpc::{Answer, PathTpc};
 use show::say;

@@ -1,6 +1,7 @@
 // The rows (R136 to R153), run through the code and printed as it answers them.
+#![tactic(auto)]
 use column::Two;
-use libc::STDOUT_FILENO;
+use show::STDOUT_FILENO;
 use lookup::calc_idx::calc_idx;
 use lookup::lin_search_hint::{Dir, Found};
 use path::link_point::LinkPoint;

@@ -1,5 +1,11 @@
 // What the programs print: text, counts, whole numbers and numbers to three places behind the point.
-use libc::STDOUT_FILENO;
+#![tactic(auto)]
+// The descriptors of standard input, standard output and standard error.
+pub const STDIN_FILENO: i32 = 0;
+
+pub const STDOUT_FILENO: i32 = 1;
+
+pub const STDERR_FILENO: i32 = 2;
 
 // Where the text of a run goes, and where its errors go: descriptors, below 0 for nowhere.
 #[derive(Clone, Copy)]

@@ -1,1 +1,2 @@
 // Laws of speed points: what laying a limit and dropping points do. No code.
+#![tactic(auto)]

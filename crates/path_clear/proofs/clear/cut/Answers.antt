@@ -84,4 +84,4 @@ pub returns : goal.returns
 returns c =
     let a = c.args in
     let l = columns a.offsets.now a.numbers.now a.grades.now a.curves.now a.speeds.now a.powers.now a.districts.now in
-    cut_left a.p l a.d c.requires.districts_value c.requires.d_bound c.requires.dropped_value c.get.ensures c.move_front.ensures c.move_front-2.ensures c.move_front-3.ensures c.move_front-4.ensures c.clear_points-speed_count.ensures c.clear_points-speed_count.auto.speeds c.move_front-5.ensures c.move_front-6.ensures
+    cut_left a.p l a.d c.requires.districts_value c.requires.d_bound c.requires.dropped_value c.get.ensures c.move_front.ensures c.move_front-2.ensures c.move_front-3.ensures c.move_front-4.ensures c.clear_points-speed_count.ensures c.clear_points-speed_count.auto.col c.move_front-5.ensures c.move_front-6.ensures

@@ -1,0 +1,44 @@
+-- `sums_answer`: question 8 and then question 9.
+use mathlib.Core.Path.{sym, ap, ◌∙◌}
+use Rattle.link.specs.Table.{table_of}
+use Rattle.path.specs.Records.{columns}
+use Rattle.link.specs.Lists.{first_no}
+use Rattle.path.specs.Answers.{ask, ask_each}
+use Rattle.path.proofs.Clauses.{sound-within, some-link, some-records}
+use Rattle.path_join.specs.declared.path_end.PathEnd.{PathEnd}
+use Rattle.path_join.specs.Sums.{sums_from}
+use Rattle.path_extend.proofs.Asked.{path-end-start, sums-8, sums-9}
+use borrow.Author.Rules.{rules}
+use Rattle.path_extend.proofs.extend.sums_answer.Goals as goal
+
+pub start_path_end-start-requires : goal.start_path_end-start-requires
+start_path_end-start-requires c =
+    let a = c.args in
+    let l = columns a.offsets.now a.numbers.now a.grades.now a.curves.now a.speeds.now a.powers.now a.districts.now in
+    let t = table_of a.links.now a.lengths.now a.sets.now a.elevs.now a.headings.now a.limits.now a.codes.now a.values.now a.link_powers.now a.link_districts.now in
+    let ns = a.list.now in
+    let w = (sound-within a.p l c.requires.districts_value).0 in
+    let r = some-records a.p l w in record { link_count_nonzero = some-link a.p l w; grade_count_nonzero = r.0; curve_count_nonzero = r.1 }
+
+pub returns-then-first-ne0 : goal.returns-then-first-ne0
+returns-then-first-ne0 c =
+    let a = c.args in
+    let l = columns a.offsets.now a.numbers.now a.grades.now a.curves.now a.speeds.now a.powers.now a.districts.now in
+    let t = table_of a.links.now a.lengths.now a.sets.now a.elevs.now a.headings.now a.limits.now a.codes.now a.values.now a.link_powers.now a.link_districts.now in
+    let ns = a.list.now in
+    sym (sums-8 a.train a.own.0 t ns a.p l (c.asked_each-first.ensures ∙ ap (ask_each 8) (c.sums_question-sums.ensures ∙ ap (λ (f : PathEnd). first_no (sums_from a.train a.own.0 t f ns)) (c.start_path_end-start.ensures ∙ path-end-start a.train t ns a.p l c.requires.districts_value))) c.if-first-ne0.true)
+
+pub records_fit-fit-requires : goal.records_fit-fit-requires
+records_fit-fit-requires c =
+    let a = c.args in
+    let l = columns a.offsets.now a.numbers.now a.grades.now a.curves.now a.speeds.now a.powers.now a.districts.now in
+    let t = table_of a.links.now a.lengths.now a.sets.now a.elevs.now a.headings.now a.limits.now a.codes.now a.values.now a.link_powers.now a.link_districts.now in
+    let ns = a.list.now in record { districts_value = (sound-within a.p l c.requires.districts_value).1; list_value = c.requires.list_value }
+
+pub returns : goal.returns
+returns c =
+    let a = c.args in
+    let l = columns a.offsets.now a.numbers.now a.grades.now a.curves.now a.speeds.now a.powers.now a.districts.now in
+    let t = table_of a.links.now a.lengths.now a.sets.now a.elevs.now a.headings.now a.limits.now a.codes.now a.values.now a.link_powers.now a.link_districts.now in
+    let ns = a.list.now in
+    c.asked.ensures ∙ ap (ask 9) c.records_fit-fit.ensures ∙ sym (sums-9 a.train a.own.0 t ns a.p l (c.asked_each-first.ensures ∙ ap (ask_each 8) (c.sums_question-sums.ensures ∙ ap (λ (f : PathEnd). first_no (sums_from a.train a.own.0 t f ns)) (c.start_path_end-start.ensures ∙ path-end-start a.train t ns a.p l c.requires.districts_value))) c.if-first-ne0.false)

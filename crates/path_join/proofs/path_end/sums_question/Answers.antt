@@ -1,0 +1,54 @@
+-- `sums_question`: from link k on the first no is that of all.
+use Rattle.link.proofs.Known.{every_in}
+use Prim.Native.Nat.{◌-◌}
+use native.Mathlib.Omega.{arith}
+use mathlib.Core.Path.{◌≡◌, refl, sym, ◌∙◌}
+use lib.ListN.{length, drop}
+use Rattle.link.specs.Lists.{first_no, first_no_from}
+use Rattle.link.specs.Table.{table_of}
+use Rattle.path_speeds.specs.Limits.{sets_of, few_at}
+use Rattle.path_join.specs.Sums.{sums_from}
+use Rattle.path_join.proofs.Carried.{sums-pass, sums-fail, sums-end}
+use Rattle.path_join.proofs.path_end.sums_question.Goals as goal
+
+pub offset_bounds-list-k : goal.offset_bounds-list-k
+offset_bounds-list-k c = record { fits = omega (arith, c.loop-k-test.true, c.well_formed) }
+
+pub bounds-list-k : goal.bounds-list-k
+bounds-list-k c = c.loop-k-test.true
+
+pub overflow_cast-list : goal.overflow_cast-list
+overflow_cast-list c = record { fits = omega (arith, c.type_inv.list c.loop-k.k) }
+
+pub walk_link-w-requires : goal.walk_link-w-requires
+walk_link-w-requires c =
+    let a = c.args in
+    let t = table_of a.links.now a.lengths.now a.sets.now a.elevs.now a.headings.now a.limits.now a.codes.now a.values.now a.link_powers.now a.link_districts.now in
+    let k = c.loop-k.k in record { i_bound = omega (arith, c.type_inv.list k); i_value = every_in (few_at a.train (sets_of t)) a.list.now k 0 c.loop-k-test.true c.requires }
+
+pub returns-then-not-w : goal.returns-then-not-w
+returns-then-not-w c =
+    let a = c.args in
+    let t = table_of a.links.now a.lengths.now a.sets.now a.elevs.now a.headings.now a.limits.now a.codes.now a.values.now a.link_powers.now a.link_districts.now in
+    let k = c.loop-k.k in
+    sym (sums-fail a.train a.own.0 t c.loop-k.here a.list.now k c.loop-k-test.true c.walk_link-w.ensures c.if-not-w.true) ∙ c.loop-k.invariant
+
+pub overflow_add-k : goal.overflow_add-k
+overflow_add-k c = record { fits = omega (arith, c.loop-k-test.true, c.well_formed) }
+
+pub loop-k-smaller : goal.loop-k-smaller
+loop-k-smaller c = omega (arith, c.loop-k-test.true)
+
+pub loop-k-preserved : goal.loop-k-preserved
+loop-k-preserved c =
+    let a = c.args in
+    let t = table_of a.links.now a.lengths.now a.sets.now a.elevs.now a.headings.now a.limits.now a.codes.now a.values.now a.link_powers.now a.link_districts.now in
+    let k = c.loop-k.k in
+    sym (sums-pass a.train a.own.0 t c.loop-k.here a.list.now k c.loop-k-test.true c.walk_link-w.ensures c.if-not-w.false) ∙ c.loop-k.invariant
+
+pub returns : goal.returns
+returns c =
+    let a = c.args in
+    let t = table_of a.links.now a.lengths.now a.sets.now a.elevs.now a.headings.now a.limits.now a.codes.now a.values.now a.link_powers.now a.link_districts.now in
+    let k = c.loop-k.k in
+    sym (sums-end a.train a.own.0 t c.loop-k.here a.list.now k c.loop-k-test.false) ∙ c.loop-k.invariant

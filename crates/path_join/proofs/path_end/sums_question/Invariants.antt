@@ -1,0 +1,18 @@
+-- `sums_question`: from link k on the first no is that of all.
+use Rattle.link.proofs.Known.{every_in}
+use Prim.Native.Nat.{◌-◌}
+use native.Mathlib.Omega.{arith}
+use mathlib.Core.Path.{◌≡◌, refl, sym, ◌∙◌}
+use lib.ListN.{length, drop}
+use Rattle.link.specs.Lists.{first_no, first_no_from}
+use Rattle.link.specs.Table.{table_of}
+use Rattle.path_speeds.specs.Limits.{sets_of, few_at}
+use Rattle.path_join.specs.Sums.{sums_from}
+use Rattle.path_join.proofs.Carried.{sums-pass, sums-fail, sums-end}
+use Rattle.path_join.proofs.path_end.sums_question.Given as goal
+
+abbrev pub invariant-loop-k : goal.invariant-loop-k
+invariant-loop-k l = first_no_from l.k (sums_from l.train l.own.0 (table_of l.links l.lengths l.sets l.elevs l.headings l.limits l.codes l.values l.link_powers l.link_districts) l.here (drop l.k l.list)) ≡ first_no (sums_from l.train l.own.0 (table_of l.links l.lengths l.sets l.elevs l.headings l.limits l.codes l.values l.link_powers l.link_districts) l.initial.here l.list)
+
+abbrev pub decreases-loop-k : goal.decreases-loop-k
+decreases-loop-k l = length l.list - l.k

@@ -1,0 +1,35 @@
+-- `walk_link`: the answers of the link's limits, grades, curves and power limits, joined.
+use native.Mathlib.Omega.{arith}
+use Rattle.link.specs.Table.{table_of}
+use Rattle.path_join.proofs.Carried.{walked-link}
+use Rattle.path_join.proofs.path_end.walk_link.Goals as goal
+
+pub link_numbers-l-requires : goal.link_numbers-l-requires
+link_numbers-l-requires c = c.requires.i_bound
+
+pub link_finite-laid-requires : goal.link_finite-laid-requires
+link_finite-laid-requires c = record { i_bound = c.requires.i_bound; i_value = c.requires.i_value }
+
+pub overflow_cast-first : goal.overflow_cast-first
+overflow_cast-first c = record { fits = omega arith }
+
+pub overflow_cast-count : goal.overflow_cast-count
+overflow_cast-count c = record { fits = omega arith }
+
+pub overflow_cast-first-2 : goal.overflow_cast-first-2
+overflow_cast-first-2 c = record { fits = omega arith }
+
+pub overflow_cast-count-2 : goal.overflow_cast-count-2
+overflow_cast-count-2 c = record { fits = omega arith }
+
+pub overflow_cast-first-3 : goal.overflow_cast-first-3
+overflow_cast-first-3 c = record { fits = omega arith }
+
+pub overflow_cast-count-3 : goal.overflow_cast-count-3
+overflow_cast-count-3 c = record { fits = omega arith }
+
+pub returns : goal.returns
+returns c =
+    let a = c.args in
+    let t = table_of a.links.now a.lengths.now a.sets.now a.elevs.now a.headings.now a.limits.now a.codes.now a.values.now a.link_powers.now a.link_districts.now in
+    walked-link a.train a.own.0 t a.at a.i c.link_numbers-l.ensures c.get.ensures c.link_finite-laid.ensures c.walk_stretches-slopes.ensures c.walk_stretches-bends.ensures c.powers_finite-drawn.ensures c.is_finite.ensures
