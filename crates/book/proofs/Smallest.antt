@@ -54,6 +54,7 @@ module _ (top x : Float) where
   -- ---- what holds
 
   pub holding-in : (l : Limit) (ls : List Limit) → Memᴰ l ls → T (lowers top l) → T (covers_at l x) → Memᴰ l (holding_at top ls x)
+  holding-in l [] m b c = elim m [ ]
   holding-in l (k ∷ ls) (Memᴰ.head e) b c =
       let below = is_true (lowers top k) (subst (λ (m : Limit). T (lowers top m)) e b) in
       let covered = is_true (covers_at k x) (subst (λ (m : Limit). T (covers_at m x)) e c) in
@@ -65,6 +66,7 @@ module _ (top x : Float) where
       pick false h = h
 
   pub holding-out : (l : Limit) (ls : List Limit) → Memᴰ l (holding_at top ls x) → Memᴰ l ls × T (holds l)
+  holding-out l [] m = elim m [ ]
   holding-out l (k ∷ ls) m = pick (holds k) refl (λ n. (Memᴰ.tail (holding-out l ls n).0, (holding-out l ls n).1)) m
     where
       pick : (t : Bool) → holds k ≡ t → (Memᴰ l (holding_at top ls x) → Memᴰ l (k ∷ ls) × T (holds l))
@@ -97,6 +99,7 @@ smallest-first u (l ∷ ls) h n =
 -- at most that of each limit
 pub smallest-each : (u : Float) (ls : List Limit) → T (real u) → Numbers ls → (l : Limit) → Memᴰ l ls
     → T (Ieee.le (size (smallest_of u ls)) (size l.value))
+smallest-each u [] h n l m = elim m [ ]
 smallest-each u (k ∷ ls) h n l (Memᴰ.head e) =
     let v = k.value in
     let r = first-number k ls n in

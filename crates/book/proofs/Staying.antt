@@ -39,10 +39,10 @@ use Rattle.book.proofs.LinkEnds.{end-offset}
 
 -- ---- from the book's ends
 
-offset_at : (es : List Float) (k : ℕ) → Offsets es → k < length es → Offset (get_or es k nan)
-offset_at [] k h l = absurd (not-suc-le-zero l)
-offset_at (e ∷ es) zero h l = h.0
-offset_at (e ∷ es) (suc k) h l = offset_at es k h.1 (le_of_suc-le-suc l)
+offset-in : (es : List Float) (k : ℕ) → Offsets es → k < length es → Offset (get_or es k nan)
+offset-in [] k h l = absurd (not-suc-le-zero l)
+offset-in (e ∷ es) zero h l = h.0
+offset-in (e ∷ es) (suc k) h l = offset-in es k h.1 (le_of_suc-le-suc l)
 
 ends-finite : (es : List Float) → Offsets es → all_finite es ≡ true
 unfolding all_finite
@@ -100,7 +100,7 @@ module _ (count : LinkPoint → ℕ) (ps : List LinkPoint) (gs : List PathResCoe
       let z : 0 + total count (take k ps) ≡ total count (take k ps) = omega arith in
       let o = offset_of (link_point_at ps k) in
       let is : get_or es k nan ≡ o = ap (λ (l : List Float). get_or l k nan) (sym e) ∙ end-offset ps k h in
-      let fine : T (real o) = subst (λ (x : Float). T (real x)) is (finite-real (get_or es k nan) (offset_at es k good (omega (arith, long))).is_finite) in
+      let fine : T (real o) = subst (λ (x : Float). T (real x)) is (finite-real (get_or es k nan) (offset-in es k good (omega (arith, long))).is_finite) in
       ap (λ (m : ℕ). stands_there gs m o) z ∙ ap (λ (x : Float). Ieee.eq x o) (first-is k h ∙ is) ∙ is_true (Ieee.eq o o) (eq_refl o fine))
 
 -- ---- the counts

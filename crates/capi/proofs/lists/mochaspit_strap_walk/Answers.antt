@@ -1,0 +1,23 @@
+-- `mochaspit_strap_walk`: by the direction that its code names.
+use mathlib.Core.Path.{ap, ◌∙◌}
+use mathlib.Core.Bool.{false}
+use lib.Ieee.{of_bits}
+use Rattle.lookup.specs.declared.lin_search_hint.Dir.{Dir}
+use Rattle.path.specs.declared.path_tpc.Answer.{Answer}
+use Rattle.path.specs.Answers.{ask}
+use Rattle.resistance.specs.Strap.{refused_res}
+use Rattle.resistance.specs.Walk.{walk_of}
+use Rattle.capi.proofs.Directed.{direction-known, direction-unknown}
+use borrow.Author.Rules.{rules}
+use Rattle.capi.proofs.lists.mochaspit_strap_walk.Goals as goal
+
+pub returns-in-Known : goal.returns-in-Known
+returns-in-Known c =
+    let a = c.args in
+    direction-known a.dir (λ (d : Dir). walk_of d a.step.0 a.count a.strap a.state a.n a.col.now) (refused_res (ask 1 false) a.strap) c.dir_of.ensures c.in-Known.is c.walk.ensures
+
+pub returns-in-Unknown : goal.returns-in-Unknown
+unfolding of_bits
+returns-in-Unknown c =
+    let a = c.args in
+    direction-unknown a.dir (λ (d : Dir). walk_of d a.step.0 a.count a.strap a.state a.n a.col.now) (refused_res (ask 1 false) a.strap) c.dir_of.ensures c.in-Unknown.is (ap (λ (x : Answer). refused_res x a.strap) c.asked.ensures)

@@ -1,0 +1,15 @@
+-- `mochaspit_extend`: the call with the train that its code names.
+use mathlib.Core.Path.{ap, ◌∙◌}
+use Rattle.link.specs.Table.{table_of}
+use Rattle.path.specs.Records.{columns}
+use Rattle.link.specs.declared.train_params.TrainParams.{TrainParams}
+use Rattle.path_extend.specs.Extend.{extend_of}
+use borrow.Author.Rules.{rules}
+use Rattle.capi.proofs.path_calls.mochaspit_extend.Goals as goal
+
+pub returns : goal.returns
+returns c =
+    let a = c.args in
+    let cols = columns a.offsets.now a.numbers.now a.grades.now a.curves.now a.speeds.now a.powers.now a.districts.now in
+    let table = table_of a.links.now a.lengths.now a.sets.now a.elevs.now a.headings.now a.limits.now a.codes.now a.values.now a.link_powers.now a.link_districts.now in
+    c.extend.ensures ∙ ap (λ (train : TrainParams). extend_of train table a.list.now a.path cols) c.train_of.ensures

@@ -1,0 +1,27 @@
+-- `whole`: a size below a thousand million million is above -1 and below 2 ^ 64.
+use Rattle.std.proofs.Common.{◌≡◌, true, false, T, pos, subst, arith, rules}
+use lib.Ieee.{Float, fin, lt, of_bits, binary64}
+use Rattle.ieee.specs.Number.{real, size, zero_of}
+use Rattle.ieee.proofs.Order.{of-true, lt-le-trans, lt_trans, lt-real-l}
+use Rattle.ieee.proofs.Sizes.{size-nonneg, real-size}
+use Rattle.view.proofs.figures.whole.Goals as goal
+
+abbrev bound : Float
+bound = of_bits binary64 4831355200913801216
+
+fits : T (lt bound (fin false 1 (pos 64)))
+unfolding lt of_bits
+fits = tt
+
+above : (x m : Float) → T (real x) → m ≡ size x → T (lt (fin true 1 (pos 0)) m)
+above x m r e =
+    let below : T (lt (fin true 1 (pos 0)) (zero_of false)) = unfold lt in tt in
+    rw e (lt-le-trans (fin true 1 (pos 0)) (zero_of false) (size x) below (size-nonneg x false r))
+
+pub truncating_f64_to_u64-t-requires : goal.truncating_f64_to_u64-t-requires
+truncating_f64_to_u64-t-requires c =
+    let x = c.args.x in
+    let m = c.size-m.result in
+    let e = c.size-m.ensures in
+    let h : T (lt m bound) = of-true c.if-m.true in
+    let r : T (real x) = subst T (real-size x) (subst (λ (y : Float). T (real y)) e (lt-real-l m bound h)) in record { lower_bound = above x m r e; upper_bound = lt_trans m bound (fin false 1 (pos 64)) h fits }

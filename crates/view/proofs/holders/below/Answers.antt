@@ -1,0 +1,8 @@
+-- `below`: the definition, part by part.
+use Rattle.std.proofs.Common.{rules}
+use Rattle.view.specs.Holders.{below}
+use Rattle.view.proofs.holders.below.Goals as goal
+
+pub returns : goal.returns
+unfolding below
+returns c = rw (c.size.ensures, c.size-2.ensures, c.two_at-t.ensures, c.three_at-b.ensures)

@@ -1,0 +1,9 @@
+-- `written_from`: one character a turn.
+use Rattle.std.proofs.Common.{arith, rules}
+use Rattle.view.proofs.names.written_from.Given as goal
+
+abbrev pub invariant-loop-left : goal.invariant-loop-left
+invariant-loop-left l = Unit {0}
+
+abbrev pub decreases-loop-left : goal.decreases-loop-left
+decreases-loop-left l = l.left

@@ -1,0 +1,9 @@
+-- `reaching`: one height a turn.
+use Rattle.std.proofs.Common.{◌-◌, arith, rules}
+use Rattle.view.proofs.picture.reaching.Given as goal
+
+abbrev pub invariant-loop-i : goal.invariant-loop-i
+invariant-loop-i l = Unit {0}
+
+abbrev pub decreases-loop-i : goal.decreases-loop-i
+decreases-loop-i l = l.n - l.i

@@ -1,0 +1,9 @@
+-- `pieces`: one row a turn.
+use Rattle.std.proofs.Common.{arith, rules}
+use Rattle.view.proofs.stretches.pieces.Given as goal
+
+abbrev pub invariant-loop-left : goal.invariant-loop-left
+invariant-loop-left l = Unit {0}
+
+abbrev pub decreases-loop-left : goal.decreases-loop-left
+decreases-loop-left l = l.left
