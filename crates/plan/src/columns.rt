@@ -60,7 +60,8 @@ fn last_link(n: usize) -> usize
 }
 
 // A run on a path with columns at the bounds of R12.
-fn with_path(
+fn with_path<R: std::rt::Clock>(
+    sys: &R,
     to: To,
     clock: Clock,
     name: &[u8],
@@ -90,6 +91,7 @@ fn with_path(
     let mut heights = [0.0f64; 65536];
     let mut original = [0.0f64; 16384];
     run(
+        sys,
         to,
         clock,
         name,
@@ -121,7 +123,8 @@ fn with_path(
 }
 
 // A run on a table whose links are cut to those of the route.
-fn with_links(
+fn with_links<R: std::rt::Clock>(
+    sys: &R,
     to: To,
     clock: Clock,
     name: &[u8],
@@ -153,6 +156,7 @@ fn with_links(
     );
     let n = last_link(seen.links);
     with_path(
+        sys,
         to,
         clock,
         name,
@@ -172,7 +176,7 @@ fn with_links(
 }
 
 // A run with columns for the link table.
-pub fn with_table(to: To, clock: Clock, name: &[u8], text: &[u8], seen: Seen) -> Counts {
+pub fn with_table<R: std::rt::Clock>(sys: &R, to: To, clock: Clock, name: &[u8], text: &[u8], seen: Seen) -> Counts {
     let mut links = [0u32; 11275];
     let mut lengths = [0.0f64; 1025];
     let mut sets = [0u32; 49200];
@@ -184,6 +188,7 @@ pub fn with_table(to: To, clock: Clock, name: &[u8], text: &[u8], seen: Seen) ->
     let mut link_powers = [0.0f64; 3072];
     let mut link_districts = [0u32; 1024];
     with_links(
+        sys,
         to,
         clock,
         name,

@@ -1,5 +1,8 @@
 // A file's bytes, or in words why there are none.
+ghost use Rattle.std.specs.Prelude.{◌≤◌, length, IfOk};
+
 use show::put;
+use std::io::{Error, ErrorKind, Read};
 
 // What is wrong with a file, or with an argument.
 pub fn wrong(err: i32, name: &[u8], words: &[u8]) {
@@ -10,25 +13,45 @@ pub fn wrong(err: i32, name: &[u8], words: &[u8]) {
     put(err, b"\n");
 }
 
-// Why a file could not be opened, just after the try.
-pub fn unopened(err: i32, name: &[u8]) {
-    let error = os::errno();
-    if error == libc::ENOENT {
-        wrong(err, name, b"there is no such file");
-    } else if error == libc::EACCES {
-        wrong(err, name, b"the file may not be read");
-    } else {
-        wrong(err, name, b"the file cannot be opened");
+// Why a file could not be opened.
+pub fn unopened(err: i32, name: &[u8], error: &Error) {
+    match error.kind() {
+        ErrorKind::NotFound => wrong(err, name, b"there is no such file"),
+        ErrorKind::PermissionDenied => wrong(err, name, b"the file may not be read"),
+        _ => wrong(err, name, b"the file cannot be opened"),
     }
 }
 
-// Why nothing could be read, just after the try.
-pub fn unread(err: i32, name: &[u8]) {
-    if os::errno() == libc::EISDIR {
-        wrong(err, name, b"a directory, not a file");
-    } else {
-        wrong(err, name, b"the file is empty");
+// Why nothing could be read.
+pub fn unread(err: i32, name: &[u8], error: &Error) {
+    match error.kind() {
+        ErrorKind::IsADirectory => wrong(err, name, b"a directory, not a file"),
+        _ => wrong(err, name, b"the file is empty"),
     }
+}
+
+// Reads until the text is full or the file ends, and how many bytes these were; an error where the first read fails.
+pub fn read_full<F: Read>(file: &mut F, text: &mut [u8]) -> std::io::Result<usize>
+    ensures { IfOk result (λ n. n ≤ length text.new) }
+{
+    let mut done = 0;
+    while done < text.len() {
+        match file.read(&mut text[done..]) {
+            Ok(n) => {
+                if n == 0 {
+                    return Ok(done);
+                }
+                done += n;
+            }
+            Err(error) => {
+                if done == 0 {
+                    return Err(error);
+                }
+                return Ok(done);
+            }
+        }
+    }
+    Ok(done)
 }
 
 // Byte i of a text, 0 behind its end.

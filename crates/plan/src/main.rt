@@ -1,4 +1,5 @@
 // The planner: reads route files, runs their calls and shows each run as a table of stretches, or as a picture behind --svg.
+#![tactic(auto)]
 mod progress; // the line of a long run
 mod beside; // what the original Rust posts behind a drop
 mod changes; // calls that may change the path
@@ -10,6 +11,9 @@ use progress::Clock;
 use route::fields::is_word;
 use route::judge::{FINE, judge};
 use show::{To, put, put_count};
+use std::env::FillError;
+use std::io::Read;
+use std::rt::{Env, Files};
 
 // What the arguments asked for so far: whether the next file is to be a picture, errors go among the output, and progress is shown; how many files there
 // were, and the status: 0 all calls done, 1 a call refused, 2 a file that could not be read or an argument that is unknown.
@@ -31,7 +35,7 @@ fn err_of(a: Asked) -> i32 {
 }
 
 // Judges a text; runs it where every line can be read.
-fn plan_text(to: To, clock: Clock, name: &[u8], text: &[u8]) -> u32 {
+fn plan_text<R: std::rt::Clock>(sys: &R, to: To, clock: Clock, name: &[u8], text: &[u8]) -> u32 {
     if files::marked(to.err, name, text) {
         return 2;
     }
@@ -41,7 +45,7 @@ fn plan_text(to: To, clock: Clock, name: &[u8], text: &[u8]) -> u32 {
         return 2;
     }
     messages::warnings::warn(to.err, name, text, seen.links);
-    let counts = columns::with_table(to, clock, name, text, seen);
+    let counts = columns::with_table(sys, to, clock, name, text, seen);
     if 0 < counts.refused {
         return 1;
     }
@@ -49,27 +53,65 @@ fn plan_text(to: To, clock: Clock, name: &[u8], text: &[u8]) -> u32 {
 }
 
 // The first n bytes of a text; one that fills its room may be longer.
-fn plan_bytes(to: To, clock: Clock, name: &[u8], text: &[u8], n: usize) -> u32 {
+fn plan_bytes<R: std::rt::Clock>(
+    sys: &R,
+    to: To,
+    clock: Clock,
+    name: &[u8],
+    text: &[u8],
+    n: usize,
+) -> u32 {
     if n < text.len() {
-        return plan_text(to, clock, name, &text[..n]);
+        return plan_text(sys, to, clock, name, &text[..n]);
     }
     files::wrong(to.err, name, b"longer than 399,999 bytes");
     2
 }
 
 // The text of an open file.
-fn plan_open(to: To, clock: Clock, fd: i32, name: &[u8]) -> u32 {
+fn plan_open<R: std::rt::Clock, F: Read>(
+    sys: &R,
+    to: To,
+    clock: Clock,
+    file: &mut F,
+    name: &[u8],
+) -> u32 {
     let mut text = [0u8; 400000];
-    let n = io::read_full(fd, &mut text);
-    if n == 0 {
-        files::unread(to.err, name);
-        return 2;
+    match files::read_full(file, &mut text) {
+        Ok(n) => {
+            if n == 0 {
+                files::wrong(to.err, name, b"the file is empty");
+                return 2;
+            }
+            plan_bytes(sys, to, clock, name, &text, n)
+        }
+        Err(error) => {
+            files::unread(to.err, name, &error);
+            2
+        }
     }
-    plan_bytes(to, clock, name, &text, n)
+}
+
+// Opens a file and plans it; a name that is no text names no file here.
+fn plan_named<R: Files + std::rt::Clock>(sys: &R, to: To, clock: Clock, name: &[u8]) -> u32 {
+    let Ok(path) = std::str::from_utf8(name) else {
+        files::wrong(to.err, name, b"the file cannot be opened");
+        return 2;
+    };
+    match std::fs::open(sys, path) {
+        Ok(file) => {
+            let mut open = file;
+            plan_open(sys, to, clock, &mut open, name)
+        }
+        Err(error) => {
+            files::unopened(to.err, name, &error);
+            2
+        }
+    }
 }
 
 // A file; its status.
-fn plan_file(a: Asked, name: &[u8]) -> u32 {
+fn plan_file<R: Files + std::rt::Clock>(sys: &R, a: Asked, name: &[u8]) -> u32 {
     let to = To {
         out: if a.svg { -1 } else { show::STDOUT_FILENO },
         err: err_of(a),
@@ -81,14 +123,7 @@ fn plan_file(a: Asked, name: &[u8]) -> u32 {
     put(to.out, b"== ");
     put(to.out, name);
     put(to.out, b"\n");
-    let fd = os::open_read(name);
-    if fd < 0 {
-        files::unopened(to.err, name);
-        return 2;
-    }
-    let status = plan_open(to, clock, fd, name);
-    libc::close(fd);
-    status
+    plan_named(sys, to, clock, name)
 }
 
 fn usage(out: i32) {
@@ -126,15 +161,13 @@ fn option(a: Asked, name: &[u8]) -> Asked {
     r
 }
 
-// Argument i: an option, or a file that is planned.
-fn argument(i: usize, a: Asked) -> Asked {
-    let mut name = io::buffer();
-    let n = os::arg(i, &mut name);
-    if files::is_option(&name[..n]) {
-        return option(a, &name[..n]);
+// An argument: an option, or a file that is planned.
+fn argument<R: Files + std::rt::Clock>(sys: &R, name: &[u8], a: Asked) -> Asked {
+    if files::is_option(name) {
+        return option(a, name);
     }
     let mut r = a;
-    r.status = worse(a.status, plan_file(a, &name[..n]));
+    r.status = worse(a.status, plan_file(sys, a, name));
     r.svg = false;
     r.files = 1;
     r
@@ -156,20 +189,31 @@ fn ended(a: Asked) -> u32 {
     a.status
 }
 
-fn main() {
-    let n = os::arg_count();
-    let mut a = Asked {
-        svg: false,
-        together: false,
-        progress: false,
-        files: 0,
-        status: 0,
-    };
-    let mut i = 1;
-    while i < n {
-        a = argument(i, a);
-        i += 1;
+// The arguments behind the program's name, one after the other; one that is too long counts as empty.
+fn arguments<R: Env + Files + std::rt::Clock>(sys: &R, first: Asked) -> Asked {
+    let mut a = first;
+    for i in 1..usize::MAX {
+        let mut name = io::buffer();
+        match sys.arg(i, &mut name) {
+            Ok(n) => a = argument(sys, &name[..n], a),
+            Err(FillError::TooLong) => a = argument(sys, b"", a),
+            Err(FillError::NotPresent) => return a,
+        }
     }
+    a
+}
+
+fn main(rt: HostRuntime) {
+    let a = arguments(
+        &rt,
+        Asked {
+            svg: false,
+            together: false,
+            progress: false,
+            files: 0,
+            status: 0,
+        },
+    );
     let status = ended(a);
     put(err_of(a), b"plan: exit status ");
     put_count(err_of(a), status as usize);

@@ -5,16 +5,18 @@ use show::{put, put_count};
 #[derive(Clone, Copy)]
 pub struct Clock {
     pub on: bool,
-    pub shown: i64,
+    pub shown: u64,
 }
 
 // Call `done` of `all`, where another second has begun.
-pub fn progress(c: Clock, err: i32, done: usize, all: usize) -> Clock {
+pub fn progress<R: std::rt::Clock>(sys: &R, c: Clock, err: i32, done: usize, all: usize) -> Clock {
     if !c.on | (all < 200) {
         return c;
     }
-    let mut now: i64 = 0;
-    libc::time(&mut now);
+    let Ok(time) = sys.since_1970() else {
+        return c;
+    };
+    let now = time.as_secs();
     if now == c.shown {
         return c;
     }

@@ -794,7 +794,8 @@ fn result(
 }
 
 // All lines of a route that can be read.
-pub fn run(
+pub fn run<R: std::rt::Clock>(
+    sys: &R,
     to: To,
     clock: Clock,
     name: &[u8],
@@ -858,7 +859,7 @@ pub fn run(
             &mut *heights,
             &mut *original,
         );
-        c = progress(c, to.err, s.done, seen.calls);
+        c = progress(sys, c, to.err, s.done, seen.calls);
         at = next_line(text, at);
     }
     cleared(c, to.err);

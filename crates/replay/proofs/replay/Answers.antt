@@ -1,0 +1,8 @@
+-- `replay`: one call a turn.
+use Prim.Native.Nat.{◌-◌}
+use native.Mathlib.Omega.{arith}
+use borrow.Author.Rules.{rules}
+use Rattle.replay.proofs.replay.Goals as goal
+
+pub loop-pos-smaller : goal.loop-pos-smaller
+loop-pos-smaller c = omega (arith, c.after-next.ensures, c.loop-pos-test.true)

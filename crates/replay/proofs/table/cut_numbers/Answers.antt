@@ -1,0 +1,8 @@
+-- `cut_numbers`: the part is as long as asked.
+use borrow.Author.Rules.{rules}
+use native.Mathlib.Omega.{arith}
+use lib.ListN.{length-take}
+use Rattle.replay.proofs.table.cut_numbers.Goals as goal
+
+pub slice_bounds-result-end : goal.slice_bounds-result-end
+slice_bounds-result-end c = simp length-take (omega arith)

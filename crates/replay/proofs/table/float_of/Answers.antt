@@ -1,0 +1,12 @@
+-- `float_of`: bits that are no NaN's are not above those of an infinity, the sign's bit dropped.
+use mathlib.Core.Path.{sym, subst, ◌∙◌}
+use mathlib.Core.Bool.{Bool, not}
+use lib.Dec.{T}
+use lib.Ieee.{binary64}
+use lib.Ieee.Bits.{nan_bits_above}
+use borrow.Author.Rules.{rules}
+use borrow.Author.Tests.{le-ltb}
+use Rattle.replay.proofs.table.float_of.Goals as goal
+
+pub float_from_bits-result : goal.float_from_bits-result
+float_from_bits-result c = subst (λ (b : Bool). T (not b)) (sym (nan_bits_above binary64 c.args.bits ∙ le-ltb _ _ c.if-bits-gt9218868437227405312.false)) tt
