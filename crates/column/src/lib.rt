@@ -1,5 +1,6 @@
 // Flat columns that the caller lends: single entries, whole stretches, and records of two, three or four entries.
 #![tactic(auto)]
+
 ghost use Rattle.std.specs.Prelude.{◌≡◌, min};
 
 pub mod floats; // floats.rt: columns of f64

@@ -1,5 +1,6 @@
 // Numbers out of text: decimals with one rounding, f64 as 0x and 16 hex digits, and whole numbers; and why a text is none.
 #![tactic(auto)]
+
 pub mod digits; // bytes, and the number that digits write
 pub mod decimal; // a decimal: sign, digits, point, digits
 pub mod number; // an f64 as a decimal or as its bits

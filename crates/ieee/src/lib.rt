@@ -1,5 +1,6 @@
 // Numbers of binary64: whether one is finite, its sign bit and its size. Each answers for every f64, a NaN included.
 #![tactic(auto)]
+
 ghost use Rattle.std.specs.Prelude.{◌≡◌};
 ghost use Rattle.std.specs.Float.Ieee.Scale.{finite};
 ghost use Rattle.ieee.specs.Number as number;

@@ -1,5 +1,6 @@
 // The link table, the train, conditions and sets, and what questions 4 to 7 ask of a link.
 #![tactic(auto)]
+
 pub mod train_params; // train_params.rs: the train, and whether a set applies to it
 pub mod speed_param; // speed_param.rs: a condition of a set
 pub mod speed_set; // speed_set.rs: the set places of a link

@@ -1,5 +1,5 @@
 -- The set places of a link, one more a turn.
-use Rattle.std.proofs.Common.{◌≡◌, ℕ, suc, ◌+◌, ◌-◌, ◌<◌, ◌≤◌, true, false, cond, List, refl, ap, ◌∙◌, add-one, arith}
+use Rattle.std.proofs.Common.{◌≡◌, ℕ, suc, ◌+◌, ◌-◌, ◌<◌, ◌≤◌, true, false, cond, List, ap, ◌∙◌, add-one, arith}
 use lib.Ieee.{Float}
 use Rattle.link.specs.Table.{set_at}
 use Rattle.link.specs.Questions.{set_formed}

@@ -1,5 +1,6 @@
 // What the planner says in words.
 #![tactic(auto)]
+
 pub mod outcomes; // what a call answered
 pub mod fields; // a field that cannot be read
 pub mod lines; // the call that a line is, and a line that cannot be read

@@ -1,5 +1,5 @@
 -- The speed points that the original Rust would have: its rules where the port has others (R174, R188), and its run followed in a column. Definitions only.
-use Rattle.std.specs.Prelude.{ℕ, zero, suc, ◌+◌, ◌-◌, ◌*◌, Bool, not, ◌&&◌, cond, List, [], ◌∷◌, ltb, leb, length, drop, Float}
+use Rattle.std.specs.Prelude.{ℕ, zero, suc, ◌+◌, ◌-◌, ◌*◌, Bool, not, ◌&&◌, cond, List, [], ltb, leb, length, drop, Float}
 use Rattle.std.specs.Float.Ieee as Ieee
 use Rattle.ieee.specs.Speed.{min_speed}
 use Rattle.column.specs.Entries.{insert_at}

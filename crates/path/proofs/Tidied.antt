@@ -14,7 +14,7 @@ use Rattle.lookup.specs.Coeff.{triple}
 use Rattle.lookup.proofs.Coeffs.{triple-lawful}
 use Rattle.link.specs.Table.{PowerLimit}
 use Rattle.path.specs.declared.path_tpc.PathTpc.{PathTpc}
-use Rattle.path.specs.Records.{Columns, columns, Path, offset_of, four_of, three_of, path_of, columns_of, record_of}
+use Rattle.path.specs.Records.{Columns, Path, offset_of, four_of, three_of, path_of, columns_of, record_of}
 use Rattle.path.specs.Answers.{left, changed}
 use Rattle.path.specs.Sound.{within_bounds, sound_path, one_of_each, sound}
 use Rattle.path.proofs.ReadBack.{counted, read_again}

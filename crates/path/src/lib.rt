@@ -1,5 +1,6 @@
 // The path: its record and lent columns, and questions 1 to 7 as its calls put them.
 #![tactic(auto)]
+
 pub mod link_point; // link_point.rs: single link points, and their counts added up
 pub mod path_tpc; // path_tpc.rs: the path's record, and an answer
 pub mod finite; // question 1

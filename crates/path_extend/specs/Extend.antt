@@ -5,7 +5,7 @@ use Rattle.link.specs.declared.train_params.TrainParams.{TrainParams}
 use Rattle.link.specs.declared.network.Judged.{Judged}
 use Rattle.link.specs.Lists.{first_no}
 use Rattle.link.specs.Train.{length_of}
-use Rattle.link.specs.Table.{LinkTable, numbers_of}
+use Rattle.link.specs.Table.{LinkTable}
 use Rattle.link.specs.Questions.{question5}
 use Rattle.path.specs.declared.path_tpc.PathTpc.{PathTpc}
 use Rattle.path.specs.declared.path_tpc.Answer.{Answer}

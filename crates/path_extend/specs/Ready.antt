@@ -6,7 +6,7 @@ use Rattle.column.specs.Records.{record_at}
 use Rattle.lookup.specs.Coeff.{triple, stands_at, net_of}
 use Rattle.link.specs.declared.train_params.TrainParams.{TrainParams}
 use Rattle.link.specs.Lists.{every}
-use Rattle.link.specs.Table.{LinkTable, numbers_of}
+use Rattle.link.specs.Table.{LinkTable}
 use Rattle.link.specs.Questions.{well_formed}
 use Rattle.path.specs.declared.path_tpc.PathTpc.{PathTpc}
 use Rattle.path.specs.declared.path_tpc.PathAnswer.{PathAnswer}

@@ -4,7 +4,6 @@ use Rattle.ieee.specs.Number.{◌⊕◌}
 use Rattle.lookup.specs.declared.path_res_coeff.PathResCoeff.{PathResCoeff}
 use Rattle.lookup.specs.Coeff.{res_coeff_record, stands_at, coefficient_of, net_of}
 use Rattle.link.specs.declared.train_params.TrainParams.{TrainParams}
-use Rattle.link.specs.Lists.{up_from}
 use Rattle.link.specs.Train.{length_of}
 use Rattle.link.specs.Table.{LinkTable, Sample, PowerLimit, numbers_of}
 use Rattle.path.specs.declared.link_point.LinkPoint.{LinkPoint}

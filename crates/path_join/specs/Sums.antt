@@ -5,8 +5,8 @@ use Rattle.std.specs.Float.Ieee.Scale.{finite}
 use Rattle.ieee.specs.Number.{◌⊕◌}
 use Rattle.lookup.specs.Coeff.{stands_at, net_of}
 use Rattle.link.specs.declared.train_params.TrainParams.{TrainParams}
-use Rattle.link.specs.Lists.{every, up_from}
-use Rattle.link.specs.Table.{LinkTable, numbers_of}
+use Rattle.link.specs.Lists.{every}
+use Rattle.link.specs.Table.{LinkTable}
 use Rattle.path.specs.Records.{Path, offset_of, end_point, last_coeff}
 use Rattle.path_speeds.specs.Limits.{sets_of, finite_at}
 use Rattle.path_stretches.specs.declared.stretch.Stretch.{Stretch}

@@ -1,5 +1,5 @@
 -- `Point`, R64 to R67: path_res.rs. Definitions only.
-use Rattle.std.specs.Prelude.{ℕ, ◌-◌, Bool, false, ◌&&◌, cond, List, [], ◌∷◌, leb, negsuc, Float}
+use Rattle.std.specs.Prelude.{ℕ, ◌-◌, false, ◌&&◌, cond, List, [], ◌∷◌, leb, negsuc, Float}
 use Rattle.std.specs.Float.{fin}
 use Rattle.std.specs.Float.Ieee.Scale.{finite}
 use Rattle.ieee.specs.Number.{+0, ◌⊖◌, ◌⊗◌}

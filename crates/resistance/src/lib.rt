@@ -1,5 +1,6 @@
 // Resistance of a train on a list of grade or curve records: path_res.rs.
 #![tactic(auto)]
+
 pub mod listed; // a list searched alone: its questions, one search, one record
 pub mod point; // path_res.rs: the train as a point in its middle
 pub mod strap; // path_res.rs: the train as a strap from front to back

@@ -6,7 +6,7 @@ use mathlib.Core.Path.{◌≡◌, ap, ◌∙◌}
 use mathlib.Core.Bool.{true, false}
 use mathlib.Core.List.{List, ◌++◌}
 use borrow.Author.Tests.{eq-eqb, ne_eqb}
-use lib.ListN.{length, take, drop, get_or, set, take-append-drop, drop_of_length-le}
+use lib.ListN.{length, take, drop, set, take-append-drop, drop_of_length-le}
 use lib.Seq.{drop-cons, take-suc-set, drop-set-lt, append_snoc}
 use Rattle.route.specs.Fields.{field_bytes, no_field, whole_at, whole_or_zero}
 use Rattle.route.specs.Filled.{listed, list_length}

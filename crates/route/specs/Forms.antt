@@ -5,7 +5,7 @@ use Rattle.decimal.specs.declared.decimal.Reading.TheVariants as Reads
 use Rattle.decimal.specs.declared.whole.Whole.{Whole}
 use Rattle.decimal.specs.declared.whole.Whole.TheVariants as Wholes
 use Rattle.route.specs.Fields.{field_bytes, no_field, number_at, whole_at}
-use Rattle.route.specs.Codes.{Entry, bytes, code_of, types, places, tails, figures, comparisons, directions}
+use Rattle.route.specs.Codes.{bytes, code_of, types, places, tails, figures, comparisons, directions}
 
 abbrev pub is_number : Reading → Bool
 is_number (Reads.Is x) = true

@@ -1,5 +1,6 @@
 // Route files: a train, links and calls as lines of text.
 #![tactic(auto)]
+
 pub mod text; // lines and fields of a text
 pub mod fields; // numbers and words out of a field
 pub mod kinds; // what a line is by its first field

@@ -1,5 +1,6 @@
 // Quantities as wrapped numbers, one type for each unit of the Rust's si, and the constants of uc.rs.
 #![tactic(auto)]
+
 ghost use Rattle.std.specs.Prelude.{◌≡◌};
 ghost use Rattle.si.specs.Constants as constants;
 

@@ -1,5 +1,6 @@
 // Speed points in a lent column: the smaller of two speeds, laying a limit, the drop at a new beginning, and the posted speed.
 #![tactic(auto)]
+
 pub mod speed_limit; // speed_limit.rs: a limit, and min_speed
 pub mod speed_point; // single points of a column
 pub mod insert_speed; // speed_point.rs: laying a limit

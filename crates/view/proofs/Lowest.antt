@@ -1,5 +1,5 @@
 -- What `lowest` finds: a limit that covers the offset with a size below that of v, none with a smaller one; or there is none.
-use Rattle.std.proofs.Common.{◌≡◌, ℕ, zero, suc, ◌+◌, ◌<◌, ◌≤◌, Bool, true, false, cond, T, eqb, ◌⊎◌, List, sym, refl, ap, ◌∙◌, subst, inl, inr, eq-or-lt_of_le, add-one, arith, T_not, eq-eqb, ne_eqb}
+use Rattle.std.proofs.Common.{◌≡◌, ℕ, zero, suc, ◌+◌, ◌<◌, ◌≤◌, Bool, true, false, cond, T, ◌⊎◌, List, sym, refl, ap, ◌∙◌, subst, inl, inr, eq-or-lt_of_le, add-one, arith, T_not, eq-eqb, ne_eqb}
 use lib.Ieee.{Float, lt}
 use lib.Ieee.Fits.{and_i, and_l, and_r}
 use Rattle.ieee.specs.Number.{size}

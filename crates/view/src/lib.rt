@@ -1,5 +1,6 @@
 // What a run looks like: the limits that were laid, a table of stretches, and a picture.
 #![tactic(auto)]
+
 pub mod history; // limits of every link joined, dropped ones too
 pub mod profile; // link borders and heights of every link joined, dropped ones too
 pub mod holders; // what holds at an offset, and up to where

@@ -1,5 +1,5 @@
 -- `pad`: one blank a turn.
-use Rattle.std.proofs.Common.{◌-◌, rules}
+use Rattle.std.proofs.Common.{◌-◌}
 use Rattle.show.proofs.pad.Given as goal
 
 abbrev pub invariant-loop-i : goal.invariant-loop-i

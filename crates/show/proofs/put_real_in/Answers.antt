@@ -1,5 +1,5 @@
 -- `put_real_in`: what is cut lies between the two ends that the code tests.
-use Rattle.std.proofs.Common.{T, sym, subst, rules}
+use Rattle.std.proofs.Common.{T, sym, subst}
 use lib.Ieee.{of_bits, neg}
 use Rattle.show.proofs.put_real_in.Goals as goal
 

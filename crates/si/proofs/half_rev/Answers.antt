@@ -1,5 +1,4 @@
 -- `half_rev`: computed from what `rev` gives.
-use borrow.Author.Rules.{rules}
 use Rattle.si.proofs.Computed.{half-rev}
 use Rattle.si.proofs.half_rev.Goals as goal
 

@@ -1,5 +1,4 @@
 -- `one_degree_per_100ft`: computed from what `deg` and `ft` give.
-use borrow.Author.Rules.{rules}
 use Rattle.si.proofs.Computed.{one-degree}
 use Rattle.si.proofs.one_degree_per_100ft.Goals as goal
 

@@ -3,10 +3,10 @@ use Prim.Native.Nat.{min}
 use mathlib.Core.Path.{ap}
 use lib.ListN.{get_or}
 use lib.Ieee.Scale.{finite}
-use Prim.Native.Nat.{◌+◌, ◌-◌, ◌≤◌}
+use Prim.Native.Nat.{◌+◌}
 use mathlib.Core.Path.{◌≡◌, refl, sym, ◌∙◌}
 use native.Mathlib.Omega.{arith}
-use borrow.Author.Rules.{rules, scaled_Fits}
+use borrow.Author.Rules.{scaled_Fits}
 use mathlib.Core.Path.{ap₂}
 use mathlib.Core.Bool.{◌&&◌, false}
 use lib.ListN.{length, take, get_or}

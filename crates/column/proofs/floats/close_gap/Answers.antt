@@ -1,7 +1,6 @@
 -- `close_gap`: the stretch after the entries that go out moves down, and the last entries before the end are zeroed.
 use mathlib.Core.Path.{sym, ◌∙◌}
 use native.Mathlib.Omega.{arith}
-use borrow.Author.Rules.{rules}
 use Rattle.ieee.specs.Number.{+0}
 use Rattle.column.proofs.Gaps.{close-moved, close-order, close-short}
 use Rattle.column.proofs.floats.close_gap.Goals as goal

@@ -3,7 +3,6 @@ use mathlib.Core.Path.{sym, ◌∙◌}
 use lib.ListN.{get_or-eq_default}
 use Rattle.column.proofs.Filling.{get_d-within}
 use Rattle.ieee.proofs.Same.{zero-literal}
-use borrow.Author.Rules.{rules}
 use Rattle.column.proofs.floats.get.Goals as goal
 
 pub returns-then-i-col : goal.returns-then-i-col

@@ -1,7 +1,6 @@
 -- `move_block`: what was copied into the block and from there is moved.
 use mathlib.Core.Path.{◌∙◌}
 use native.Mathlib.Omega.{arith}
-use borrow.Author.Rules.{rules}
 use Rattle.column.proofs.Moves.{block-moved}
 use Rattle.column.proofs.floats.move_block.Goals as goal
 

@@ -1,8 +1,6 @@
 -- `move_down`: at each turn the first k entries are moved.
 use Prim.Native.Nat.{◌-◌}
-use native.Mathlib.Omega.{arith}
-use borrow.Author.Rules.{rules}
-use Rattle.column.proofs.Moves.{Downed, downed-none, downed-more, downed-all}
+use Rattle.column.proofs.Moves.{Downed}
 use Rattle.column.proofs.floats.move_down.Given as goal
 
 abbrev pub invariant-loop-k : goal.invariant-loop-k

@@ -1,6 +1,5 @@
 -- `move_front`: the stretch moves down to the front, and the rest is zeroed.
 use mathlib.Core.Path.{◌∙◌}
-use borrow.Author.Rules.{rules}
 use Rattle.ieee.specs.Number.{+0}
 use Rattle.column.proofs.Moves.{front-moved}
 use Rattle.column.proofs.floats.move_front.Goals as goal

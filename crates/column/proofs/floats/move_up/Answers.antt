@@ -1,10 +1,6 @@
 -- `move_up`: at each turn the entries past the first k are moved.
-use Prim.Native.Nat.{◌+◌, ◌-◌, ◌≤◌}
-use mathlib.Core.Path.{◌≡◌, refl, ◌∙◌}
+use mathlib.Core.Path.{refl, ◌∙◌}
 use native.Mathlib.Omega.{arith}
-use borrow.Author.Rules.{rules}
-use lib.ListN.{length}
-use Rattle.column.specs.Entries.{moved}
 use Rattle.column.proofs.Moves.{up_start, up_more, up_done}
 use Rattle.column.proofs.floats.move_up.Goals as goal
 

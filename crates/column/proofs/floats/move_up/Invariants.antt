@@ -1,11 +1,8 @@
 -- `move_up`: at each turn the entries past the first k are moved.
 use Prim.Native.Nat.{◌+◌, ◌-◌, ◌≤◌}
-use mathlib.Core.Path.{◌≡◌, refl, ◌∙◌}
-use native.Mathlib.Omega.{arith}
-use borrow.Author.Rules.{rules}
+use mathlib.Core.Path.{◌≡◌}
 use lib.ListN.{length}
 use Rattle.column.specs.Entries.{moved}
-use Rattle.column.proofs.Moves.{up_start, up_more, up_done}
 use Rattle.column.proofs.floats.move_up.Given as goal
 
 abbrev pub invariant-loop-k : goal.invariant-loop-k

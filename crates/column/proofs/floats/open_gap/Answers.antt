@@ -1,7 +1,6 @@
 -- `open_gap`: the stretch moves up, where there is room.
 use mathlib.Core.Path.{sym, ◌∙◌}
 use native.Mathlib.Omega.{arith}
-use borrow.Author.Rules.{rules}
 use Rattle.column.proofs.Gaps.{open-moved, open_order, open_full}
 use Rattle.column.proofs.floats.open_gap.Goals as goal
 

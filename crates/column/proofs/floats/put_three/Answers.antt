@@ -7,7 +7,6 @@ use lib.Ieee.{Float}
 use native.Mathlib.Omega.{arith}
 use Rattle.column.specs.Records.{three}
 use Rattle.column.proofs.Entry.{three-put, put-past}
-use borrow.Author.Rules.{rules}
 use Rattle.column.proofs.floats.put_three.Goals as goal
 
 pub set-requires : goal.set-requires

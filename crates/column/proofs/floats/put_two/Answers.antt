@@ -7,7 +7,6 @@ use lib.Ieee.{Float}
 use native.Mathlib.Omega.{arith}
 use Rattle.column.specs.Records.{two}
 use Rattle.column.proofs.Entry.{two-put, put-past}
-use borrow.Author.Rules.{rules}
 use Rattle.column.proofs.floats.put_two.Goals as goal
 
 pub set-requires : goal.set-requires

@@ -1,7 +1,6 @@
 -- `set`: past the column's end a store changes nothing.
 use mathlib.Core.Path.{sym}
 use lib.Seq.{set_out}
-use borrow.Author.Rules.{rules}
 use Rattle.column.proofs.floats.set.Goals as goal
 
 pub returns-else-i-col : goal.returns-else-i-col

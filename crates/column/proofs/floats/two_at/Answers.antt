@@ -4,7 +4,6 @@ use native.Mathlib.Omega.{arith}
 use Rattle.column.specs.Records.{two}
 use Rattle.column.proofs.Entry.{two-entries, record-past}
 use Rattle.ieee.proofs.Same.{zero-literal}
-use borrow.Author.Rules.{rules}
 use Rattle.column.proofs.floats.two_at.Goals as goal
 
 pub get-requires : goal.get-requires

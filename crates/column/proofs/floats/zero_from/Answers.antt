@@ -1,10 +1,8 @@
 -- `zero_from`: what is left to zero from i on gives what was to be zeroed from the start.
-use Prim.Native.Nat.{◌-◌}
-use mathlib.Core.Path.{◌≡◌, refl, sym, ◌∙◌}
+use mathlib.Core.Path.{refl, sym, ◌∙◌}
 use native.Mathlib.Omega.{arith}
-use borrow.Author.Rules.{rules, scaled_Fits}
+use borrow.Author.Rules.{scaled_Fits}
 use lib.ListN.{length, length-set}
-use Rattle.column.specs.Entries.{zero_from}
 use Rattle.column.proofs.Filling.{zero_more, zero-none}
 use Rattle.ieee.specs.Number.{+0}
 use Rattle.ieee.proofs.Same.{zero-literal}

@@ -1,13 +1,9 @@
 -- `zero_range`: what is left to zero from i on gives what was to be zeroed from the start.
 use Prim.Native.Nat.{◌-◌}
-use mathlib.Core.Path.{◌≡◌, refl, sym, ◌∙◌}
-use native.Mathlib.Omega.{arith}
-use borrow.Author.Rules.{rules, scaled_Fits}
-use lib.ListN.{length, length-set}
+use mathlib.Core.Path.{◌≡◌}
+use lib.ListN.{length}
 use Rattle.ieee.specs.Number.{+0}
-use Rattle.ieee.proofs.Same.{zero-literal}
 use Rattle.column.specs.Entries.{zero_range}
-use Rattle.column.proofs.Filling.{range-more, range_none}
 use Rattle.column.proofs.floats.zero_range.Given as goal
 
 abbrev pub invariant-loop-i : goal.invariant-loop-i

@@ -1,9 +1,9 @@
 -- `copy`: at each turn the first k entries are copied.
-use Prim.Native.Nat.{◌+◌, ◌-◌}
+use Prim.Native.Nat.{◌+◌}
 use native.Mathlib.Omega.{arith}
 use borrow.Author.Rules.{scaled_Fits}
 use lib.ListN.{length}
-use Rattle.column.proofs.Moves.{Copied, copied_none, copied_more, copied_all}
+use Rattle.column.proofs.Moves.{copied_none, copied_more, copied_all}
 use Rattle.column.proofs.words.copy.Goals as goal
 
 pub loop-k-init : goal.loop-k-init

@@ -1,9 +1,6 @@
 -- `copy`: at each turn the first k entries are copied.
-use Prim.Native.Nat.{◌+◌, ◌-◌}
-use native.Mathlib.Omega.{arith}
-use borrow.Author.Rules.{scaled_Fits}
-use lib.ListN.{length}
-use Rattle.column.proofs.Moves.{Copied, copied_none, copied_more, copied_all}
+use Prim.Native.Nat.{◌-◌}
+use Rattle.column.proofs.Moves.{Copied}
 use Rattle.column.proofs.words.copy.Given as goal
 
 abbrev pub invariant-loop-k : goal.invariant-loop-k

@@ -3,7 +3,6 @@ use mathlib.Core.Path.{sym}
 use native.Mathlib.Omega.{arith}
 use Rattle.column.specs.Records.{four}
 use Rattle.column.proofs.Entry.{four-entries, record-past}
-use borrow.Author.Rules.{rules}
 use Rattle.column.proofs.words.four_at.Goals as goal
 
 pub get-requires : goal.get-requires

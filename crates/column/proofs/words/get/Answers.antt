@@ -1,7 +1,6 @@
 -- `get`: within the column the entry itself, past its end the zero.
 use mathlib.Core.Path.{sym}
 use lib.ListN.{get_or-eq_default}
-use borrow.Author.Rules.{rules}
 use Rattle.column.proofs.words.get.Goals as goal
 
 pub returns : goal.returns

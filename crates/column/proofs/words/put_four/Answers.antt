@@ -6,7 +6,6 @@ use lib.ListN.{set}
 use native.Mathlib.Omega.{arith}
 use Rattle.column.specs.Records.{four}
 use Rattle.column.proofs.Entry.{four-put, put-past}
-use borrow.Author.Rules.{rules}
 use Rattle.column.proofs.words.put_four.Goals as goal
 
 pub set-requires : goal.set-requires

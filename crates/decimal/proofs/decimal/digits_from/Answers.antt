@@ -1,6 +1,6 @@
 -- `digits_from`: the bytes from i on take d to what all bytes make.
-use Rattle.std.proofs.Common.{◌≡◌, ◌+◌, ◌-◌, length, get_or, drop, sym, refl, ap, ◌∙◌, subst, arith, rules}
-use Rattle.decimal.specs.Decimal.{digits_from, digits_of}
+use Rattle.std.proofs.Common.{◌+◌, get_or, drop, sym, refl, ap, ◌∙◌, subst}
+use Rattle.decimal.specs.Decimal.{digits_from}
 use Rattle.decimal.specs.Known.{Known}
 use Rattle.decimal.specs.declared.decimal.Digits.{Digits}
 use Rattle.decimal.proofs.DigitSteps.{known_start, known_step}

@@ -1,10 +1,7 @@
 -- `digits_from`: the bytes from i on take d to what all bytes make.
-use Rattle.std.proofs.Common.{◌≡◌, ◌+◌, ◌-◌, length, get_or, drop, sym, refl, ap, ◌∙◌, subst, arith, rules}
+use Rattle.std.proofs.Common.{◌≡◌, ◌-◌, length, drop}
 use Rattle.decimal.specs.Decimal.{digits_from, digits_of}
 use Rattle.decimal.specs.Known.{Known}
-use Rattle.decimal.specs.declared.decimal.Digits.{Digits}
-use Rattle.decimal.proofs.DigitSteps.{known_start, known_step}
-use Rattle.decimal.proofs.Texts.{carried-next, carried-end, digits-carried}
 use Rattle.decimal.proofs.decimal.digits_from.Given as goal
 
 abbrev pub invariant-loop-i : goal.invariant-loop-i

@@ -1,5 +1,5 @@
 -- `read_decimal`: with a sign and without.
-use Rattle.std.proofs.Common.{drop, sym, subst, rules}
+use Rattle.std.proofs.Common.{drop, sym, subst}
 use Rattle.decimal.specs.Decimal.{start}
 use Rattle.decimal.specs.Known.{Known}
 use Rattle.decimal.proofs.DigitSteps.{known_start, known_from}

@@ -1,5 +1,5 @@
 -- `step`: by what the byte is.
-use Rattle.std.proofs.Common.{sym, ◌∙◌, rules}
+use Rattle.std.proofs.Common.{sym, ◌∙◌}
 use borrow.Author.Tests.{not-true, not-false}
 use Rattle.decimal.proofs.DigitSteps.{step-bad, step-digit, step_other}
 use Rattle.decimal.proofs.decimal.step.Goals as goal

@@ -1,5 +1,5 @@
 -- `value_of`: the quotient of the two casts, with its sign.
-use Rattle.std.proofs.Common.{◌&&◌, rules}
+use Rattle.std.proofs.Common.{◌&&◌}
 use borrow.Author.Tests.{not-true, not-false}
 use Rattle.decimal.proofs.Quotient.{in-float, small, value_not, value-plus, value-minus}
 use Rattle.decimal.proofs.decimal.value_of.Goals as goal

@@ -13,6 +13,6 @@ returns c =
     let b = c.args.b in
     let s = c.if-d.scale in
     elim c.if-d.branch [
-      then-d w ↦ with-digit-after d b s w.if-d.true w.scale-is
-    | else-d w ↦ with-digit-before d b s w.if-d.false w.scale-is
+      | then-d w ↦ with-digit-after d b s w.if-d.true w.scale-is
+      | else-d w ↦ with-digit-before d b s w.if-d.false w.scale-is
     ]

@@ -1,7 +1,6 @@
 -- `all_digits`: from i on every byte is a digit where all of them are.
-use Rattle.std.proofs.Common.{◌≡◌, ◌-◌, length, drop, refl, ◌∙◌, arith, rules}
+use Rattle.std.proofs.Common.{◌≡◌, ◌-◌, length, drop}
 use Rattle.decimal.specs.Digits.{all_digits}
-use Rattle.decimal.proofs.Texts.{digits-next, digits-stop, digits-end}
 use Rattle.decimal.proofs.digits.all_digits.Given as goal
 
 abbrev pub invariant-loop-i : goal.invariant-loop-i

@@ -1,6 +1,6 @@
 -- `digits_number`: n is what the digits before i write.
-use Rattle.std.proofs.Common.{◌-◌, length, refl, arith, rules}
-use Rattle.decimal.proofs.Texts.{Read, read-start, read_next, read_fits, read-end}
+use Rattle.std.proofs.Common.{refl, arith}
+use Rattle.decimal.proofs.Texts.{read-start, read_next, read_fits, read-end}
 use Rattle.decimal.proofs.digits.digits_number.Goals as goal
 
 pub loop-i-init : goal.loop-i-init

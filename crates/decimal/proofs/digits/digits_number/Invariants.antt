@@ -1,6 +1,6 @@
 -- `digits_number`: n is what the digits before i write.
-use Rattle.std.proofs.Common.{◌-◌, length, refl, arith, rules}
-use Rattle.decimal.proofs.Texts.{Read, read-start, read_next, read_fits, read-end}
+use Rattle.std.proofs.Common.{◌-◌, length}
+use Rattle.decimal.proofs.Texts.{Read}
 use Rattle.decimal.proofs.digits.digits_number.Given as goal
 
 abbrev pub invariant-loop-i : goal.invariant-loop-i

@@ -1,5 +1,5 @@
 -- `hex_value`: case by case.
-use Rattle.std.proofs.Common.{sym, ◌∙◌, arith, rules}
+use Rattle.std.proofs.Common.{sym, ◌∙◌, arith}
 use Rattle.decimal.proofs.Bytes.{between, hex-digit, hex-lower, hex-upper, hex-none}
 use Rattle.decimal.proofs.digits.hex_value.Goals as goal
 

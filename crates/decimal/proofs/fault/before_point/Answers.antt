@@ -1,5 +1,4 @@
 -- `before_point`: the point is within the text.
-use Rattle.std.proofs.Common.{rules}
 use Rattle.decimal.proofs.Faults.{point-within, point-before}
 use Rattle.decimal.proofs.fault.before_point.Goals as goal
 

@@ -1,5 +1,4 @@
 -- `behind_point`: with a point and without.
-use Rattle.std.proofs.Common.{rules}
 use Rattle.decimal.proofs.Faults.{point-behind, point-none}
 use Rattle.decimal.proofs.fault.behind_point.Goals as goal
 

@@ -1,5 +1,4 @@
 -- `behind_sign`: by the first byte.
-use Rattle.std.proofs.Common.{rules}
 use Rattle.decimal.proofs.Faults.{sign-empty, sign-minus, sign-none}
 use Rattle.decimal.proofs.fault.behind_sign.Goals as goal
 

@@ -1,5 +1,4 @@
 -- `form_fault`: test by test.
-use Rattle.std.proofs.Common.{rules}
 use Rattle.decimal.proofs.Faults.{form-other, form-places, form-large}
 use Rattle.decimal.proofs.fault.form_fault.Goals as goal
 

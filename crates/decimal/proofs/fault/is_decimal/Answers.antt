@@ -1,5 +1,4 @@
 -- `is_decimal`: test by test.
-use Rattle.std.proofs.Common.{rules}
 use Rattle.decimal.specs.Fault.{is_decimal}
 use Rattle.decimal.proofs.fault.is_decimal.Goals as goal
 

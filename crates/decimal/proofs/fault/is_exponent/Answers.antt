@@ -1,5 +1,4 @@
 -- `is_exponent`: test by test.
-use Rattle.std.proofs.Common.{rules}
 use Rattle.decimal.specs.Fault.{is_exponent}
 use Rattle.decimal.proofs.fault.is_exponent.Goals as goal
 

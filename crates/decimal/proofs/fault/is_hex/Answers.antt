@@ -1,5 +1,4 @@
 -- `is_hex`: test by test.
-use Rattle.std.proofs.Common.{rules}
 use Rattle.decimal.specs.Fault.{is_hex}
 use Rattle.decimal.proofs.fault.is_hex.Goals as goal
 

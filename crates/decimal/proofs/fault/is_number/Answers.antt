@@ -1,5 +1,5 @@
 -- `is_number`: by what `read_number` answers.
-use Rattle.std.proofs.Common.{sym, ap, ◌∙◌, rules}
+use Rattle.std.proofs.Common.{sym, ap, ◌∙◌}
 use Rattle.decimal.specs.Fault.{is_number}
 use Rattle.decimal.proofs.fault.is_number.Goals as goal
 

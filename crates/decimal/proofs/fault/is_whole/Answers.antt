@@ -1,5 +1,5 @@
 -- `is_whole`: by what `read_whole` answers.
-use Rattle.std.proofs.Common.{sym, ap, ◌∙◌, rules}
+use Rattle.std.proofs.Common.{sym, ap, ◌∙◌}
 use Rattle.decimal.specs.Fault.{is_whole}
 use Rattle.decimal.proofs.fault.is_whole.Goals as goal
 

@@ -1,5 +1,5 @@
 -- `number_fault`: test by test.
-use Rattle.std.proofs.Common.{sym, ◌∙◌, rules, eq-eqb, ne_eqb}
+use Rattle.std.proofs.Common.{sym, ◌∙◌, eq-eqb, ne_eqb}
 use Rattle.decimal.specs.Fault.{fault_of}
 use Rattle.decimal.proofs.fault.number_fault.Goals as goal
 

@@ -1,5 +1,5 @@
 -- `whole_fault`: test by test.
-use Rattle.std.proofs.Common.{not, sym, refl, ap, ◌∙◌, rules, le-ltb, lt-ltb, eq-eqb, ne_eqb}
+use Rattle.std.proofs.Common.{not, sym, ap, ◌∙◌, le-ltb, lt-ltb, eq-eqb, ne_eqb}
 use Rattle.decimal.specs.Fault.{whole_fault_of}
 use Rattle.decimal.proofs.fault.whole_fault.Goals as goal
 

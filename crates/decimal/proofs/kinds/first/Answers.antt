@@ -1,6 +1,5 @@
 -- `first`: from i on the first byte of the kind is where it is in the text.
-use Rattle.std.proofs.Common.{◌≡◌, ◌+◌, ◌-◌, length, drop, refl, ◌∙◌, arith, rules}
-use Rattle.decimal.specs.Kinds.{first}
+use Rattle.std.proofs.Common.{◌∙◌}
 use Rattle.decimal.proofs.Faults.{first_next, first-stop, first-end}
 use Rattle.decimal.proofs.kinds.first.Goals as goal
 

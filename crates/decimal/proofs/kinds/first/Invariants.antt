@@ -1,7 +1,6 @@
 -- `first`: from i on the first byte of the kind is where it is in the text.
-use Rattle.std.proofs.Common.{◌≡◌, ◌+◌, ◌-◌, length, drop, refl, ◌∙◌, arith, rules}
+use Rattle.std.proofs.Common.{◌≡◌, ◌+◌, ◌-◌, length, drop}
 use Rattle.decimal.specs.Kinds.{first}
-use Rattle.decimal.proofs.Faults.{first_next, first-stop, first-end}
 use Rattle.decimal.proofs.kinds.first.Given as goal
 
 abbrev pub invariant-loop-i : goal.invariant-loop-i

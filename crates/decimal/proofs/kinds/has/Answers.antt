@@ -1,5 +1,4 @@
 -- `has`: the first byte of the kind is before the end.
-use Rattle.std.proofs.Common.{rules}
 use Rattle.decimal.proofs.kinds.has.Goals as goal
 
 pub returns : goal.returns

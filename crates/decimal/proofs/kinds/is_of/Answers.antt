@@ -1,5 +1,4 @@
 -- `is_of`: kind by kind.
-use Rattle.std.proofs.Common.{rules}
 use Rattle.decimal.proofs.kinds.is_of.Goals as goal
 
 pub returns-in-Comma : goal.returns-in-Comma

@@ -1,5 +1,5 @@
 -- `behind_mark`: a text with the mark has two bytes.
-use Rattle.std.proofs.Common.{sym, ◌∙◌, rules}
+use Rattle.std.proofs.Common.{sym, ◌∙◌}
 use Rattle.decimal.proofs.Answers.{mark-long, marked, unmarked}
 use Rattle.decimal.proofs.number.behind_mark.Goals as goal
 

@@ -1,5 +1,4 @@
 -- `has_mark`: a text that is too short has none.
-use Rattle.std.proofs.Common.{rules}
 use Rattle.decimal.proofs.Answers.{mark-short}
 use Rattle.decimal.proofs.number.has_mark.Goals as goal
 

@@ -1,5 +1,4 @@
 -- `of_bits`: a NaN apart.
-use Rattle.std.proofs.Common.{rules}
 use Rattle.decimal.proofs.Patterns.{nan-bits, no-nan-bits}
 use Rattle.decimal.proofs.number.of_bits.Goals as goal
 

@@ -1,5 +1,5 @@
 -- `read_number`: bits or a decimal.
-use Rattle.std.proofs.Common.{sym, ◌∙◌, ⊎_elim, arith, rules}
+use Rattle.std.proofs.Common.{sym, ◌∙◌, arith}
 use Rattle.decimal.proofs.Answers.{number-bits, number-other, number-length}
 use Rattle.decimal.proofs.number.read_number.Goals as goal
 use Rattle.decimal.proofs.number.read_number.Goals.{then-digits-eq16+else-all_digits, else-digits-eq16}
@@ -17,6 +17,6 @@ returns c =
     let m = c.behind_mark-digits.ensures in
     let r = c.read_decimal.result in
     elim c.if-digits-eq16.branch [
-      then-digits-eq16+else-all_digits w ↦ number-other l d m r (sym w.all_digits.ensures ∙ w.if-all_digits.false) c.read_decimal.ensures
-    | else-digits-eq16 w ↦ number-length l d m r w.if-digits-eq16.false c.read_decimal.ensures
+      | then-digits-eq16+else-all_digits w ↦ number-other l d m r (sym w.all_digits.ensures ∙ w.if-all_digits.false) c.read_decimal.ensures
+      | else-digits-eq16 w ↦ number-length l d m r w.if-digits-eq16.false c.read_decimal.ensures
     ]

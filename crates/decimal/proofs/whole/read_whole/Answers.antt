@@ -1,5 +1,5 @@
 -- `read_whole`: test by test.
-use Rattle.std.proofs.Common.{sym, ◌∙◌, arith, rules}
+use Rattle.std.proofs.Common.{sym, ◌∙◌, arith}
 use borrow.Author.Tests.{not-true, not-false}
 use Rattle.decimal.proofs.Answers.{whole-empty, whole_long, whole-other, whole-large, whole_is}
 use Rattle.decimal.proofs.whole.read_whole.Goals as goal

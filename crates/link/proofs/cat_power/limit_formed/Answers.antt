@@ -1,5 +1,5 @@
 -- `limit_formed`: the numbers are finite, and then the order.
-use Rattle.std.proofs.Common.{ap, ◌∙◌, rules}
+use Rattle.std.proofs.Common.{ap, ◌∙◌}
 use Rattle.ieee.proofs.Same.{zero-literal}
 use Rattle.link.specs.Questions.{limit_formed}
 use Rattle.link.proofs.Formed.{limit-asks, limit-read}

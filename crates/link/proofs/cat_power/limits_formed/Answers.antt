@@ -1,7 +1,7 @@
 -- `limits_formed`: from limit i on, with the answer so far, the answer is that from the first on.
-use Rattle.std.proofs.Common.{◌≡◌, ◌-◌, ◌≤◌, ◌&&◌, sym, ap, ◌∙◌, arith}
+use Rattle.std.proofs.Common.{◌&&◌, sym, ap, ◌∙◌, arith}
 use mathlib.Core.Bool.{and-true}
-use Rattle.link.specs.Lists.{every, up_from}
+use Rattle.link.specs.Lists.{every}
 use Rattle.link.specs.Table.{limit_at}
 use Rattle.link.specs.Questions.{limit_formed}
 use Rattle.link.proofs.Loops.{whole-range, every_more, every-end}

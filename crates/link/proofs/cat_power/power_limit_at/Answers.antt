@@ -1,5 +1,4 @@
 -- `power_limit_at`: the three entries and the district under their names.
-use Rattle.std.proofs.Common.{rules}
 use Rattle.link.proofs.cat_power.power_limit_at.Goals as goal
 
 pub returns : goal.returns

@@ -1,5 +1,5 @@
 -- `speed_limit_at`: the three entries under their names.
-use Rattle.std.proofs.Common.{arith, rules}
+use Rattle.std.proofs.Common.{arith}
 use Rattle.link.proofs.Formed.{limit-read}
 use Rattle.link.proofs.cat_power.speed_limit_at.Goals as goal
 

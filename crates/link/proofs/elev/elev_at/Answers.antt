@@ -1,5 +1,4 @@
 -- `elev_at`: the two entries under their names.
-use Rattle.std.proofs.Common.{rules}
 use Rattle.link.proofs.elev.elev_at.Goals as goal
 
 pub returns : goal.returns

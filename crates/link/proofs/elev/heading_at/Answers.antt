@@ -1,5 +1,4 @@
 -- `heading_at`: the two entries under their names.
-use Rattle.std.proofs.Common.{rules}
 use Rattle.link.proofs.elev.heading_at.Goals as goal
 
 pub returns : goal.returns

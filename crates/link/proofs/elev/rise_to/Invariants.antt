@@ -1,7 +1,7 @@
 -- `rise_to`: from sample i on, with the answer so far, the answer is that from the first on.
-use Rattle.std.proofs.Common.{◌≡◌, ◌-◌, ◌≤◌, ◌&&◌, sym, refl, ◌∙◌, arith}
+use Rattle.std.proofs.Common.{◌≡◌, ◌-◌, ◌≤◌, ◌&&◌}
 use Rattle.link.specs.Table.{sample_at}
-use Rattle.link.proofs.Formed.{rising_from, rising-more, rising_none}
+use Rattle.link.proofs.Formed.{rising_from}
 use Rattle.link.proofs.elev.rise_to.Given as goal
 
 abbrev pub invariant-loop-i : goal.invariant-loop-i

@@ -1,6 +1,5 @@
 -- `sample_in`: the two entries.
 use Rattle.link.proofs.Formed.{sample-read}
-use Rattle.std.proofs.Common.{rules}
 use Rattle.link.proofs.elev.sample_in.Goals as goal
 
 pub returns : goal.returns

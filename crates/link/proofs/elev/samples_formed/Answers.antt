@@ -1,5 +1,5 @@
 -- `samples_formed`: none; one only; and then the first sample and the rise.
-use Rattle.std.proofs.Common.{sym, arith, rules}
+use Rattle.std.proofs.Common.{sym, arith}
 use Rattle.ieee.proofs.Same.{zero-literal}
 use Rattle.link.specs.Table.{sample_at}
 use Rattle.link.proofs.Formed.{samples-none, samples-one, samples-more}

@@ -1,5 +1,5 @@
 -- `link_numbers`: one number after the other.
-use Rattle.std.proofs.Common.{◌*◌, add-zero, rules}
+use Rattle.std.proofs.Common.{◌*◌, add-zero}
 use Rattle.link.specs.Table.{numbers_of}
 use Rattle.link.proofs.network.link_numbers.Goals as goal
 

@@ -1,5 +1,5 @@
 -- `place_formed`: the flag, and then the set.
-use Rattle.std.proofs.Common.{sym, ap, ◌∙◌, rules}
+use Rattle.std.proofs.Common.{sym, ap, ◌∙◌}
 use Rattle.link.specs.Questions.{set_formed}
 use Rattle.link.proofs.Formed.{set-absent}
 use Rattle.link.proofs.network.place_formed.Goals as goal

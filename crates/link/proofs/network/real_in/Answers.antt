@@ -1,5 +1,5 @@
 -- `real_in`: by the number.
-use Rattle.std.proofs.Common.{rules, eq-eqb, ne_eqb}
+use Rattle.std.proofs.Common.{eq-eqb, ne_eqb}
 use Rattle.link.specs.Questions.{real_in}
 use Rattle.link.proofs.network.real_in.Goals as goal
 

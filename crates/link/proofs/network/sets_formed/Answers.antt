@@ -1,7 +1,5 @@
 -- `sets_formed`: from p on each place passes if each of the eight does.
-use Rattle.std.proofs.Common.{◌≡◌, ℕ, ◌-◌, Bool, sym, refl, ◌∙◌, arith}
-use Rattle.link.specs.declared.speed_set.SpeedSet.{SpeedSet}
-use Rattle.link.specs.Lists.{every, up_from}
+use Rattle.std.proofs.Common.{sym, ◌∙◌}
 use Rattle.link.specs.Table.{set_at}
 use Rattle.link.specs.Questions.{set_formed}
 use Rattle.link.proofs.Judging.{said-no, said-yes}

@@ -1,11 +1,8 @@
 -- `sets_formed`: from p on each place passes if each of the eight does.
-use Rattle.std.proofs.Common.{◌≡◌, ℕ, ◌-◌, Bool, sym, refl, ◌∙◌, arith}
-use Rattle.link.specs.declared.speed_set.SpeedSet.{SpeedSet}
+use Rattle.std.proofs.Common.{◌≡◌, ◌-◌}
 use Rattle.link.specs.Lists.{every, up_from}
 use Rattle.link.specs.Table.{set_at}
 use Rattle.link.specs.Questions.{set_formed}
-use Rattle.link.proofs.Judging.{said-no, said-yes}
-use Rattle.link.proofs.Loops.{every-pass, every-fail, every-end}
 use Rattle.link.proofs.network.sets_formed.Given as goal
 
 abbrev pub invariant-loop-p : goal.invariant-loop-p

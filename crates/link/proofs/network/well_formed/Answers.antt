@@ -1,12 +1,9 @@
 -- `well_formed`: question by question, with what is left to ask after each yes.
-use Rattle.std.proofs.Common.{◌≡◌, ℕ, ◌+◌, ◌*◌, ◌≤◌, Bool, length, get_or, sym, refl, ap, ◌∙◌, arith, rules, eq-eqb, ne_eqb}
+use Rattle.std.proofs.Common.{sym, refl, ap, ◌∙◌, arith, eq-eqb, ne_eqb}
 use lib.Ieee as Ieee
 use lib.Ieee.{Float}
-use Rattle.ieee.specs.Number.{+0}
 use Rattle.ieee.proofs.Same.{zero-literal}
-use Rattle.link.specs.declared.network.LinkNumbers.{LinkNumbers}
-use Rattle.link.specs.Table.{LinkTable, table_of}
-use Rattle.link.specs.Questions.{well_formed}
+use Rattle.link.specs.Table.{table_of}
 use Rattle.link.proofs.Judging.{said-no, said-yes, all_asked}
 use Rattle.link.proofs.Known.{pools-known}
 use mathlib.Core.Path.{ap}

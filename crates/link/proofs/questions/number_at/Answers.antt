@@ -1,5 +1,5 @@
 -- `number_at`: by the kind of list.
-use Rattle.std.proofs.Common.{ap, ◌∙◌, rules}
+use Rattle.std.proofs.Common.{ap, ◌∙◌}
 use Rattle.column.specs.declared.Four.{Four}
 use Rattle.column.proofs.Entry.{four-entries}
 use Rattle.link.proofs.questions.number_at.Goals as goal

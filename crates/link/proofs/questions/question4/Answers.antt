@@ -1,8 +1,7 @@
 -- `question4`: from k on the first no is that of the whole list.
-use Rattle.std.proofs.Common.{◌≡◌, ℕ, ◌-◌, Bool, map, sym, ◌∙◌, arith}
+use Rattle.std.proofs.Common.{sym, ◌∙◌}
 use native.Mathlib.Nat.{sub-zero}
-use Rattle.link.specs.Lists.{up_from, first_no_from}
-use Rattle.link.specs.Questions.{real_in, number_at, numbers, question4}
+use Rattle.link.specs.Questions.{real_in, number_at, question4}
 use Rattle.link.proofs.Judging.{said-no-of, said-yes-of}
 use Rattle.link.proofs.Loops.{first-pass, first-fail, first-end}
 use mathlib.Core.Path.{ap}

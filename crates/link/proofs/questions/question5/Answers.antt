@@ -1,9 +1,8 @@
 -- `question5`: from k on, after the link `prev`, the first no is that of the whole list.
-use Rattle.std.proofs.Common.{◌≡◌, ◌-◌, true, false, not, ◌||◌, length, sym, ◌∙◌, ⊎_elim, arith}
+use Rattle.std.proofs.Common.{◌≡◌, true, false, not, ◌||◌, length, sym, ◌∙◌, arith}
 use native.Mathlib.Nat.{sub-zero}
 use borrow.Author.Rules.{scaled_Fits}
-use Rattle.link.specs.Lists.{up_from, first_no_from}
-use Rattle.link.specs.Questions.{number_at, numbers, follows, contiguous, question5}
+use Rattle.link.specs.Questions.{number_at, follows, question5}
 use Rattle.link.proofs.Judging.{said-no, said-yes, follow-pass, follow-fail, follow-end}
 use mathlib.Core.Path.{ap}
 use mathlib.Core.Bool.{not}
@@ -39,8 +38,8 @@ loop-k-preserved c =
     let o = c.loop-k in
     let l = c.link_numbers-l in
     let t : (not o.asked || follows o.prev l.result) ≡ true = elim c.if-asked.branch [
-      then-asked+else-not-link_follows w ↦ rw w.if-asked.true (said-yes w.link_follows.ensures (ap not w.if-not-link_follows.false))
-    | else-asked w ↦ rw w.if-asked.false
+      | then-asked+else-not-link_follows w ↦ rw w.if-asked.true (said-yes w.link_follows.ensures (ap not w.if-not-link_follows.false))
+      | else-asked w ↦ rw w.if-asked.false
     ] in
     sym (follow-pass a.links.now (number_at false a.list.now) o.asked o.prev o.k (length a.list.now) c.loop-k-test.true l.result l.ensures t) ∙ o.invariant
 

@@ -1,10 +1,7 @@
 -- `question5`: from k on, after the link `prev`, the first no is that of the whole list.
-use Rattle.std.proofs.Common.{◌≡◌, ◌-◌, true, false, not, ◌||◌, length, sym, ◌∙◌, ⊎_elim, arith}
-use native.Mathlib.Nat.{sub-zero}
-use borrow.Author.Rules.{scaled_Fits}
+use Rattle.std.proofs.Common.{◌≡◌, ◌-◌, false, length}
 use Rattle.link.specs.Lists.{up_from, first_no_from}
-use Rattle.link.specs.Questions.{number_at, numbers, follows, contiguous, question5}
-use Rattle.link.proofs.Judging.{said-no, said-yes, follow-pass, follow-fail, follow-end}
+use Rattle.link.specs.Questions.{number_at, numbers, contiguous, question5}
 use Rattle.link.proofs.questions.question5.Given as goal
 
 abbrev pub invariant-loop-k : goal.invariant-loop-k

@@ -1,11 +1,8 @@
 -- `question6`: from k on the first no is that of the whole list.
-use Rattle.std.proofs.Common.{◌≡◌, ℕ, ◌-◌, Bool, map, sym, ◌∙◌, arith}
-use native.Mathlib.Nat.{sub-zero}
+use Rattle.std.proofs.Common.{◌≡◌, ◌-◌, map}
 use Rattle.link.specs.Lists.{up_from, first_no_from}
 use Rattle.link.specs.Table.{table_of}
 use Rattle.link.specs.Questions.{well_formed, number_at, numbers, question6}
-use Rattle.link.proofs.Judging.{said-no-of, said-yes-of}
-use Rattle.link.proofs.Loops.{first-pass, first-fail, first-end}
 use Rattle.link.proofs.questions.question6.Given as goal
 
 abbrev pub invariant-loop-k : goal.invariant-loop-k

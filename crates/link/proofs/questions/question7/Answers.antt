@@ -1,8 +1,7 @@
 -- `question7`: from k on the first no is that of the whole list.
-use Rattle.std.proofs.Common.{◌≡◌, ℕ, ◌-◌, Bool, map, sym, ◌∙◌, arith, rules}
+use Rattle.std.proofs.Common.{sym, ◌∙◌, arith}
 use native.Mathlib.Nat.{sub-zero}
-use Rattle.link.specs.Lists.{up_from, first_no_from}
-use Rattle.link.specs.Questions.{has_set, number_at, numbers, question7}
+use Rattle.link.specs.Questions.{has_set, number_at, question7}
 use Rattle.link.proofs.Formed.{set-none, set-some}
 use Rattle.link.proofs.Loops.{first-pass, first-fail, first-end}
 use Rattle.link.proofs.questions.question7.Goals as goal

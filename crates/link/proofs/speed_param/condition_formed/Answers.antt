@@ -1,8 +1,8 @@
 -- `condition_formed`: question by question.
-use Rattle.std.proofs.Common.{◌≡◌, ℕ, ◌<◌, ◌≤◌, sym, ap, ◌∙◌, subst, ap₂, rules}
+use Rattle.std.proofs.Common.{◌≡◌, ℕ, ◌<◌, ◌≤◌, sym, ap, ◌∙◌, subst, ap₂}
 use lib.Ieee.{Float}
 use lib.Ieee.Scale.{finite}
-use Rattle.link.specs.Condition.{Condition, param_of, param_told}
+use Rattle.link.specs.Condition.{param_of, param_told}
 use Rattle.link.specs.Table.{condition_at}
 use Rattle.link.proofs.Conditions.{kind-unknown, code-low, code-high, codes-known}
 use Rattle.link.proofs.speed_param.condition_formed.Goals as goal

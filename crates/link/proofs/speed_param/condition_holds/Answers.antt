@@ -1,5 +1,5 @@
 -- `condition_holds`: the three entries, the kind, and then the comparison.
-use Rattle.std.proofs.Common.{ℕ, ◌∙◌, ap₂, rules}
+use Rattle.std.proofs.Common.{ℕ, ◌∙◌, ap₂}
 use lib.Ieee.{Float}
 use Rattle.link.specs.Condition.{param_of, param_told, param_holds, holds}
 use Rattle.link.specs.Table.{condition_at}

@@ -1,6 +1,5 @@
 -- `param_holds`: by the kind.
 use Rattle.link.specs.Condition.{param_holds}
-use Rattle.std.proofs.Common.{rules}
 use Rattle.link.proofs.speed_param.param_holds.Goals as goal
 
 pub returns-in_default : goal.returns-in_default

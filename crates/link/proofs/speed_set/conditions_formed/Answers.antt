@@ -1,7 +1,6 @@
 -- `conditions_formed`: from condition i on the answer is that from the first on.
-use Rattle.std.proofs.Common.{◌≡◌, ◌+◌, ◌-◌, ◌≤◌, sym, ap, ◌∙◌, arith}
-use borrow.Author.Tests.{not-true, not-false}
-use Rattle.link.specs.Lists.{every, up_from}
+use Rattle.std.proofs.Common.{◌+◌, sym, ap, ◌∙◌, arith}
+use Rattle.link.specs.Lists.{every}
 use Rattle.link.specs.Table.{condition_at}
 use Rattle.link.specs.Condition.{condition_formed}
 use Rattle.link.proofs.Loops.{whole-range, every-pass, every-fail, every-end}

@@ -1,10 +1,8 @@
 -- `conditions_formed`: from condition i on the answer is that from the first on.
-use Rattle.std.proofs.Common.{◌≡◌, ◌+◌, ◌-◌, ◌≤◌, sym, ap, ◌∙◌, arith}
-use borrow.Author.Tests.{not-true, not-false}
+use Rattle.std.proofs.Common.{◌≡◌, ◌-◌, ◌≤◌}
 use Rattle.link.specs.Lists.{every, up_from}
 use Rattle.link.specs.Table.{condition_at}
 use Rattle.link.specs.Condition.{condition_formed}
-use Rattle.link.proofs.Loops.{whole-range, every-pass, every-fail, every-end}
 use Rattle.link.proofs.speed_set.conditions_formed.Given as goal
 
 abbrev pub invariant-loop-i : goal.invariant-loop-i

@@ -1,5 +1,5 @@
 -- `present_formed`: test by test.
-use Rattle.std.proofs.Common.{sym, rules}
+use Rattle.std.proofs.Common.{sym}
 use borrow.Author.Tests.{not-true, not-false}
 use Rattle.link.proofs.Formed.{present-flag, present-many, present-codes, present-values, present-limits, present-ranged}
 use mathlib.Core.Path.{ap}

@@ -1,5 +1,5 @@
 -- `set_at`: the six entries under their names.
-use Rattle.std.proofs.Common.{add-zero, rules}
+use Rattle.std.proofs.Common.{add-zero}
 use Rattle.link.specs.Table.{set_at}
 use Rattle.link.proofs.speed_set.set_at.Goals as goal
 

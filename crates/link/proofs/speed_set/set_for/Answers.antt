@@ -1,5 +1,5 @@
 -- `set_for`: the single place, then the one for the type.
-use Rattle.std.proofs.Common.{add-one, arith, rules, eq-eqb, ne_eqb}
+use Rattle.std.proofs.Common.{add-one, arith, eq-eqb, ne_eqb}
 use Rattle.link.specs.Table.{set_for}
 use Rattle.link.proofs.Formed.{type-below}
 use Rattle.link.proofs.speed_set.set_for.Goals as goal

@@ -1,5 +1,5 @@
 -- `set_formed`: the flag, and then the set.
-use Rattle.std.proofs.Common.{◌≡◌, arith, rules}
+use Rattle.std.proofs.Common.{◌≡◌, arith}
 use borrow.Author.Tests.{lt-leb}
 use Rattle.link.specs.Questions.{set_formed}
 use Rattle.link.proofs.speed_set.set_formed.Goals as goal

@@ -1,6 +1,5 @@
 -- `type_number`: type by type.
 use Rattle.link.specs.Train.{type_number}
-use Rattle.std.proofs.Common.{rules}
 use Rattle.link.proofs.train_params.type_number.Goals as goal
 
 pub returns-in-None : goal.returns-in-None

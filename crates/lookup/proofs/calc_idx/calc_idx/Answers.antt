@@ -1,8 +1,6 @@
 -- `calc_idx`: question by question.
 use mathlib.Core.Path.{sym, ◌∙◌}
-use borrow.Author.Tests.{not-true, not-false}
 use Rattle.lookup.proofs.SearchSteps.{asks-offset, asks-numbers, asks-sound, asks-search, sound-known}
-use borrow.Author.Rules.{rules}
 use Rattle.lookup.proofs.calc_idx.calc_idx.Goals as goal
 
 pub returns-then-not-is_finite : goal.returns-then-not-is_finite

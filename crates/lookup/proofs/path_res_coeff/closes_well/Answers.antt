@@ -3,7 +3,6 @@ use mathlib.Core.Path.{◌≡◌, sym, ◌∙◌}
 use mathlib.Core.Bool.{false}
 use lib.Ieee.Scale.{finite}
 use Rattle.lookup.proofs.Coeffs.{infinity}
-use borrow.Author.Rules.{rules}
 use Rattle.lookup.proofs.path_res_coeff.closes_well.Goals as goal
 
 pub returns-then-closes : goal.returns-then-closes

@@ -1,6 +1,5 @@
 -- `coeff_at`: the three entries under their names.
 use Rattle.column.specs.Records.{record_at}
-use borrow.Author.Rules.{rules}
 use Rattle.lookup.proofs.path_res_coeff.coeff_at.Goals as goal
 
 pub returns : goal.returns

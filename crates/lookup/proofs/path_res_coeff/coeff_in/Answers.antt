@@ -1,6 +1,5 @@
 -- `coeff_in`: three entries are a record.
 use Rattle.lookup.proofs.Coeffs.{coeff-entries}
-use borrow.Author.Rules.{rules}
 use Rattle.lookup.proofs.path_res_coeff.coeff_in.Goals as goal
 
 pub returns : goal.returns

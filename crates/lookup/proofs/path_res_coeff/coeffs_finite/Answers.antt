@@ -2,7 +2,6 @@
 use Prim.Native.Nat.{◌-◌, ◌*◌}
 use mathlib.Core.Path.{sym, ap, ◌∙◌}
 use native.Mathlib.Omega.{arith}
-use borrow.Author.Rules.{rules}
 use lib.Seq.{take-length, take_all}
 use Rattle.ieee.specs.Number.{all_finite}
 use Rattle.lookup.specs.Coeff.{coeffs_finite}

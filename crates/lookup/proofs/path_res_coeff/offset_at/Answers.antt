@@ -1,6 +1,5 @@
 -- `offset_at`: the entry is the record's offset.
 use Rattle.lookup.proofs.Coeffs.{offset-entry}
-use borrow.Author.Rules.{rules}
 use Rattle.lookup.proofs.path_res_coeff.offset_at.Goals as goal
 
 pub returns : goal.returns

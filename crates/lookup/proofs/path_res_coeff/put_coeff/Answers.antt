@@ -1,6 +1,5 @@
 -- `put_coeff`: the three entries side by side.
 use Rattle.column.specs.Records.{put_record}
-use borrow.Author.Rules.{rules}
 use Rattle.lookup.proofs.path_res_coeff.put_coeff.Goals as goal
 
 pub returns : goal.returns

@@ -1,12 +1,10 @@
 -- `backward`: from i back the search ends where it ends from the hint back.
-use Prim.Native.Nat.{◌<◌}
-use mathlib.Core.Path.{◌≡◌, refl, sym, ap, ◌∙◌}
+use mathlib.Core.Path.{refl, sym, ap, ◌∙◌}
 use native.Mathlib.Omega.{arith}
 use lib.Ieee as Ieee
 use Rattle.column.proofs.Bridge.{length-records}
 use Rattle.lookup.specs.Coeff.{triple, coeffs, offset_at}
 use Rattle.lookup.proofs.Coeffs.{triple-lawful}
-use Rattle.lookup.specs.Search.{backwards}
 use Rattle.lookup.proofs.SearchSteps.{backward-pass, backward-stop, backward-first}
 use Rattle.lookup.proofs.search.backward.Goals as goal
 

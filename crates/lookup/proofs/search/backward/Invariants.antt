@@ -1,13 +1,8 @@
 -- `backward`: from i back the search ends where it ends from the hint back.
 use Prim.Native.Nat.{◌<◌}
-use mathlib.Core.Path.{◌≡◌, refl, sym, ap, ◌∙◌}
-use native.Mathlib.Omega.{arith}
-use lib.Ieee as Ieee
-use Rattle.column.proofs.Bridge.{length-records}
-use Rattle.lookup.specs.Coeff.{triple, coeffs, offset_at}
-use Rattle.lookup.proofs.Coeffs.{triple-lawful}
+use mathlib.Core.Path.{◌≡◌}
+use Rattle.lookup.specs.Coeff.{coeffs}
 use Rattle.lookup.specs.Search.{backwards}
-use Rattle.lookup.proofs.SearchSteps.{backward-pass, backward-stop, backward-first}
 use Rattle.lookup.proofs.search.backward.Given as goal
 
 abbrev pub invariant-loop-j : goal.invariant-loop-j

@@ -1,7 +1,6 @@
 -- `find`: by the direction.
 use mathlib.Core.Path.{◌∙◌}
 use Rattle.lookup.proofs.SearchSteps.{unknown-forward}
-use borrow.Author.Rules.{rules}
 use Rattle.lookup.proofs.search.find.Goals as goal
 
 pub returns-in-Bwd : goal.returns-in-Bwd

@@ -8,7 +8,6 @@ use Rattle.lookup.specs.CalcIdx.{done_at}
 use Rattle.lookup.specs.Coeff.{triple, coeffs}
 use Rattle.lookup.proofs.Coeffs.{triple-lawful}
 use Rattle.lookup.proofs.SearchSteps.{backward-found, backward-hint, backward-range}
-use borrow.Author.Rules.{rules}
 use Rattle.lookup.proofs.search.find_backward.Goals as goal
 
 pub returns-then-hint-n : goal.returns-then-hint-n

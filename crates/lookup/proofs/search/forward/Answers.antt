@@ -1,13 +1,11 @@
 -- `forward`: from i on the search ends where it ends from the hint on.
-use Prim.Native.Nat.{◌-◌, ◌<◌}
-use mathlib.Core.Path.{◌≡◌, refl, sym, ap, ◌∙◌}
+use mathlib.Core.Path.{refl, sym, ap, ◌∙◌}
 use native.Mathlib.Omega.{arith}
 use lib.Ieee as Ieee
 use lib.Ieee.{Float}
 use Rattle.column.proofs.Bridge.{length-records}
 use Rattle.lookup.specs.Coeff.{triple, coeffs}
 use Rattle.lookup.proofs.Coeffs.{triple-lawful}
-use Rattle.lookup.specs.Search.{forwards}
 use Rattle.lookup.proofs.SearchSteps.{forward-pass, forward-stop, forward-end}
 use Rattle.lookup.proofs.search.forward.Goals as goal
 

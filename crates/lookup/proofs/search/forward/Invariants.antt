@@ -1,14 +1,8 @@
 -- `forward`: from i on the search ends where it ends from the hint on.
 use Prim.Native.Nat.{◌-◌, ◌<◌}
-use mathlib.Core.Path.{◌≡◌, refl, sym, ap, ◌∙◌}
-use native.Mathlib.Omega.{arith}
-use lib.Ieee as Ieee
-use lib.Ieee.{Float}
-use Rattle.column.proofs.Bridge.{length-records}
-use Rattle.lookup.specs.Coeff.{triple, coeffs}
-use Rattle.lookup.proofs.Coeffs.{triple-lawful}
+use mathlib.Core.Path.{◌≡◌}
+use Rattle.lookup.specs.Coeff.{coeffs}
 use Rattle.lookup.specs.Search.{forwards}
-use Rattle.lookup.proofs.SearchSteps.{forward-pass, forward-stop, forward-end}
 use Rattle.lookup.proofs.search.forward.Given as goal
 
 abbrev pub invariant-loop-i : goal.invariant-loop-i

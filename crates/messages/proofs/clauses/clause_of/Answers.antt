@@ -1,13 +1,9 @@
 -- `clause_of`: clause by clause, with what is left to ask after each yes.
-use Rattle.std.proofs.Common.{◌≡◌, ℕ, ◌+◌, ◌*◌, ◌≤◌, length, get_or, sym, refl, ◌∙◌, arith, rules, eq-eqb, ne_eqb}
-use lib.Ieee.{Float}
-use Rattle.ieee.specs.Number.{+0}
+use Rattle.std.proofs.Common.{sym, refl, ◌∙◌, arith, eq-eqb, ne_eqb}
 use Rattle.ieee.proofs.Same.{zero-literal}
-use Rattle.link.specs.declared.network.LinkNumbers.{LinkNumbers}
-use Rattle.link.specs.Table.{LinkTable, table_of}
+use Rattle.link.specs.Table.{table_of}
 use Rattle.link.proofs.Judging.{said-no, said-yes}
 use Rattle.link.proofs.Known.{pools-known}
-use Rattle.messages.specs.Clauses.{clause_of}
 use Rattle.messages.proofs.ClauseSteps.{length-asked, clauses-asked}
 use mathlib.Core.Path.{ap}
 use mathlib.Core.Bool.{not}

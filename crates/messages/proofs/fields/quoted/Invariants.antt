@@ -1,5 +1,5 @@
 -- `quoted`: one byte a turn.
-use Rattle.std.proofs.Common.{◌-◌, length, arith, rules}
+use Rattle.std.proofs.Common.{◌-◌, length}
 use Rattle.messages.proofs.fields.quoted.Given as goal
 
 abbrev pub invariant-loop-i : goal.invariant-loop-i

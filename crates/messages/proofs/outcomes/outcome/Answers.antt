@@ -1,5 +1,5 @@
 -- `outcome`: done where the number is 0.
-use Rattle.std.proofs.Common.{sym, rules, eq-eqb, ne_eqb}
+use Rattle.std.proofs.Common.{sym, eq-eqb, ne_eqb}
 use Rattle.messages.proofs.outcomes.outcome.Goals as goal
 
 pub returns-then-a-eq0 : goal.returns-then-a-eq0

@@ -1,5 +1,5 @@
 -- `line_start`: one line a turn.
-use Rattle.std.proofs.Common.{◌-◌, length, arith, rules}
+use Rattle.std.proofs.Common.{◌-◌, length}
 use Rattle.messages.proofs.places.line_start.Given as goal
 
 abbrev pub invariant-loop-at : goal.invariant-loop-at

@@ -1,5 +1,5 @@
 -- `all_told`: one sort a turn.
-use Rattle.std.proofs.Common.{◌-◌, rules}
+use Rattle.std.proofs.Common.{◌-◌}
 use Rattle.messages.proofs.warnings.all_told.Given as goal
 
 abbrev pub invariant-loop-sort : goal.invariant-loop-sort

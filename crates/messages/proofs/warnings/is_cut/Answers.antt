@@ -1,5 +1,5 @@
 -- `is_cut`: what is cut lies between the two ends that the code tests.
-use Rattle.std.proofs.Common.{T, sym, subst, rules}
+use Rattle.std.proofs.Common.{T, sym, subst}
 use lib.Ieee.{of_bits, neg}
 use Rattle.messages.proofs.warnings.is_cut.Goals as goal
 

@@ -1,5 +1,5 @@
 -- `lines_noted`: one line a turn.
-use Rattle.std.proofs.Common.{◌-◌, length, rules}
+use Rattle.std.proofs.Common.{◌-◌, length}
 use Rattle.messages.proofs.warnings.lines_noted.Given as goal
 
 abbrev pub invariant-loop-at : goal.invariant-loop-at

@@ -7,7 +7,6 @@ use Rattle.speed.specs.Insert.{insert_speed}
 use Rattle.speed.proofs.PointColumn.{length-points, leaves_at}
 use Rattle.original.specs.Original.{not_released, insert_original}
 use Rattle.original.proofs.Inserted.{found_inside, as-original, as-port}
-use borrow.Author.Rules.{rules}
 use Rattle.original.proofs.insert.insert_as_original.Goals as goal
 
 pub not_released-requires : goal.not_released-requires

@@ -12,7 +12,6 @@ use Rattle.speed.specs.Insert.{drop_repeat}
 use Rattle.speed.proofs.PointColumn.{next-inserted, leaves_at}
 use Rattle.original.specs.Original.{not_released}
 use Rattle.original.proofs.Inserted.{laid-before, same-before}
-use borrow.Author.Rules.{rules}
 use Rattle.original.proofs.insert.not_released.Goals as goal
 
 pub drop_repeat-requires : goal.drop_repeat-requires

@@ -10,7 +10,6 @@ use Rattle.speed.specs.Insert.{between}
 use Rattle.speed.proofs.PointColumn.{length-points}
 use Rattle.speed.proofs.InsertSteps.{between-yes, between-no}
 use Rattle.original.proofs.Inserted.{last-reached, last-after, first_found}
-use borrow.Author.Rules.{rules}
 use Rattle.original.proofs.insert.strictly_between.Goals as goal
 
 pub returns-then-offset_at-l : goal.returns-then-offset_at-l

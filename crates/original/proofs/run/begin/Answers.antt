@@ -1,7 +1,6 @@
 -- `begin`: one point in a column of zeros, where it has room.
 use native.Mathlib.Omega.{arith}
 use Rattle.original.proofs.Followed.{no_room, begun}
-use borrow.Author.Rules.{rules}
 use Rattle.original.proofs.run.begin.Goals as goal
 
 pub returns-then-col-lt2 : goal.returns-then-col-lt2

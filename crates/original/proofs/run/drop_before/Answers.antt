@@ -8,7 +8,6 @@ use Rattle.speed.specs.Column.{points}
 use Rattle.speed.proofs.PointColumn.{holds-points, leaves_at}
 use Rattle.original.specs.Original.{clear_original, points_in}
 use Rattle.original.proofs.Followed.{first-most, rest-held, none_left, first-pulled}
-use borrow.Author.Rules.{rules}
 use Rattle.original.proofs.run.drop_before.Goals as goal
 
 pub overflow_mul-from : goal.overflow_mul-from

@@ -5,12 +5,10 @@ use native.Mathlib.Omega.{arith}
 use lib.ListN.{length}
 use Rattle.column.specs.declared.Two.{Two}
 use Rattle.column.specs.declared.Three.{Three}
-use Rattle.column.specs.Records.{record_at, three, two}
 use Rattle.speed.specs.Column.{points}
 use Rattle.speed.proofs.PointColumn.{length-points, fits-points, leaves_at}
-use Rattle.original.specs.Original.{insert_original, follow}
+use Rattle.original.specs.Original.{insert_original}
 use Rattle.original.proofs.Followed.{none-held, none_kept, follow-none, follow-full, follow_one}
-use borrow.Author.Rules.{rules}
 use Rattle.original.proofs.run.follow.Goals as goal
 
 pub returns-then-m-eq0 : goal.returns-then-m-eq0

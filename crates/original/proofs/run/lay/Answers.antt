@@ -1,14 +1,11 @@
 -- `lay`: what is left to lay from record k on gives what was to be laid at first.
 use Prim.Native.Nat.{ℕ, ◌-◌}
-use native.Mathlib.Omega.{arith}
 use mathlib.Core.Path.{refl, ap₂, ◌∙◌}
 use mathlib.Core.List.{List}
-use lib.ListN.{length}
 use Rattle.speed.specs.Points.{Point}
-use Rattle.speed.specs.Column.{points}
 use Rattle.speed.proofs.PointColumn.{holds-points, holds-again, leaves_at}
 use Rattle.original.specs.Original.{points_in, follow_all}
-use Rattle.original.proofs.Followed.{Laying, laying-next, laying-end}
+use Rattle.original.proofs.Followed.{laying-next, laying-end}
 use Rattle.original.proofs.run.lay.Goals as goal
 
 pub points_in-m-requires : goal.points_in-m-requires

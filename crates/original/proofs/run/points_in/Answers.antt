@@ -1,7 +1,6 @@
 -- `points_in`: by whether the column is long enough.
 use native.Mathlib.Omega.{arith}
 use Rattle.original.proofs.Followed.{too_short, long-enough}
-use borrow.Author.Rules.{rules}
 use Rattle.original.proofs.run.points_in.Goals as goal
 
 pub returns-then-col-n : goal.returns-then-col-n

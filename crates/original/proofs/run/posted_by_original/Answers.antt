@@ -1,8 +1,7 @@
 -- `posted_by_original`: from point i on the speed is what it was from the first on.
-use Prim.Native.Nat.{◌+◌, ◌-◌, ◌≤◌}
+use Prim.Native.Nat.{◌+◌}
 use native.Mathlib.Omega.{arith}
-use mathlib.Core.Path.{◌≡◌, sym, ap, ◌∙◌}
-use mathlib.Core.Logic.{⊎_elim}
+use mathlib.Core.Path.{sym, ap, ◌∙◌}
 use mathlib.Core.List.{List}
 use lib.ListN.{drop}
 use lib.Ieee as Ieee
@@ -39,8 +38,8 @@ loop-i-preserved c =
     let l = length-points a.n a.col.now in
     let own = sym (ap (λ (y : Float). Ieee.le y x) c.offset_at.ensures) in
     elim c.if-offset_at-x.branch [
-      then-offset_at-x w ↦ (omega arith, ap (λ (t : Velocity). posted x (drop (o.i + 1) ps) t.0) w.v-is ∙ ap (posted x (drop (o.i + 1) ps)) w.speed_at-v.ensures ∙ sym (point-passed x ps o.i o.v.0 (omega arith) (own ∙ w.if-offset_at-x.true)) ∙ o.invariant.1)
-    | else-offset_at-x w ↦ (omega arith, ap (λ (t : Velocity). posted x (drop (o.i + 1) ps) t.0) w.v-is ∙ sym (point-ahead x ps o.i o.v.0 (omega arith) (own ∙ w.if-offset_at-x.false)) ∙ o.invariant.1)
+      | then-offset_at-x w ↦ (omega arith, ap (λ (t : Velocity). posted x (drop (o.i + 1) ps) t.0) w.v-is ∙ ap (posted x (drop (o.i + 1) ps)) w.speed_at-v.ensures ∙ sym (point-passed x ps o.i o.v.0 (omega arith) (own ∙ w.if-offset_at-x.true)) ∙ o.invariant.1)
+      | else-offset_at-x w ↦ (omega arith, ap (λ (t : Velocity). posted x (drop (o.i + 1) ps) t.0) w.v-is ∙ sym (point-ahead x ps o.i o.v.0 (omega arith) (own ∙ w.if-offset_at-x.false)) ∙ o.invariant.1)
     ]
 
 pub returns : goal.returns

@@ -1,7 +1,6 @@
 -- `asked_each`: yes, and the first no.
 use mathlib.Core.Path.{sym, ap}
 use Rattle.path.specs.Answers.{ask_each}
-use borrow.Author.Rules.{rules}
 use Rattle.path.proofs.answer.asked_each.Goals as goal
 
 pub returns-in-Yes : goal.returns-in-Yes

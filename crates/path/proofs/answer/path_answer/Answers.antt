@@ -1,10 +1,8 @@
 -- `path_answer`: question 1 and then question 2.
 use mathlib.Core.Path.{sym, ap, ◌∙◌}
-use borrow.Author.Tests.{not-true, not-false}
 use Rattle.path.specs.Records.{columns}
 use Rattle.path.specs.Answers.{ask}
 use Rattle.path.proofs.InTurn.{judged-else, judged-1, judged-2}
-use borrow.Author.Rules.{rules}
 use Rattle.path.proofs.answer.path_answer.Goals as goal
 
 pub returns-then-not-also : goal.returns-then-not-also

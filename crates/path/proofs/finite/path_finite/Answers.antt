@@ -1,7 +1,6 @@
 -- `path_finite`: the five columns, in the definition's order.
 use mathlib.Core.Path.{ap₂}
 use mathlib.Core.Bool.{◌&&◌}
-use borrow.Author.Rules.{rules}
 use Rattle.path.specs.Sound.{path_finite}
 use Rattle.path.proofs.finite.path_finite.Goals as goal
 

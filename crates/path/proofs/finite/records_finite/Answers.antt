@@ -3,7 +3,6 @@ use Prim.Native.Nat.{◌*◌, ◌≤◌}
 use native.Mathlib.Nat.{mul-le-mul_right}
 use native.Mathlib.Omega.{arith}
 use mathlib.Core.Path.{sym, ap, ◌∙◌}
-use borrow.Author.Rules.{rules}
 use lib.ListN.{length}
 use lib.Seq.{take_all, take-length}
 use Rattle.ieee.specs.Number.{all_finite}

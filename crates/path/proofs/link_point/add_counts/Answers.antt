@@ -1,10 +1,9 @@
 -- `add_counts`: each sum with the counts from point i on is the sum of all.
-use Prim.Native.Nat.{◌-◌}
 use native.Mathlib.Omega.{arith}
 use Rattle.ieee.proofs.Same.{zero-literal}
 use Rattle.path.specs.Records.{grade_count_of, curve_count_of, power_count_of}
 use Rattle.path.specs.Sound.{totals}
-use Rattle.path.proofs.Counts.{Counted, counts-small, counted_none, counted-more, counted-all, counted-fits}
+use Rattle.path.proofs.Counts.{counts-small, counted_none, counted-more, counted-all, counted-fits}
 use Rattle.path.proofs.link_point.add_counts.Goals as goal
 
 pub loop-i-init : goal.loop-i-init

@@ -1,5 +1,4 @@
 -- `link_point_at`: the offset and the four numbers as they are read.
-use borrow.Author.Rules.{rules}
 use Rattle.path.proofs.link_point.link_point_at.Goals as goal
 
 pub four_at-q-requires : goal.four_at-q-requires

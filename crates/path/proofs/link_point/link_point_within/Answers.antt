@@ -1,7 +1,6 @@
 -- `link_point_within`: the offset and the four numbers as they are read.
 use Prim.Native.Nat.{◌+◌, ◌*◌}
 use native.Mathlib.Omega.{arith}
-use borrow.Author.Rules.{rules}
 use Rattle.path.proofs.LinkPoints.{point-entries}
 use Rattle.path.proofs.link_point.link_point_within.Goals as goal
 

@@ -4,7 +4,6 @@ use Rattle.link.specs.Table.{table_of}
 use Rattle.link.specs.Questions.{numbers}
 use Rattle.path.specs.Answers.{ask_each}
 use Rattle.path.proofs.InTurn.{links-4, links-5, links-6, links-7}
-use borrow.Author.Rules.{rules}
 use Rattle.path.proofs.links.links_answer.Goals as goal
 
 pub returns-then-real-ne0 : goal.returns-then-real-ne0

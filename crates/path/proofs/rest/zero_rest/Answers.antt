@@ -3,7 +3,6 @@ use native.Mathlib.Omega.{arith}
 use Rattle.path.specs.Records.{columns}
 use Rattle.path.proofs.Clauses.{bounds}
 use Rattle.path.proofs.PastCounts.{zeroed}
-use borrow.Author.Rules.{rules}
 use Rattle.path.proofs.rest.zero_rest.Goals as goal
 
 pub zero_from-requires : goal.zero_from-requires

@@ -1,11 +1,8 @@
 -- `all_numbered`: the answer for the link points before i, and that for those from i on, are the answer.
-use Prim.Native.Nat.{◌-◌, ◌≤◌}
-use mathlib.Core.Path.{◌≡◌, sym, ap, ◌∙◌}
-use mathlib.Core.Bool.{◌&&◌}
+use mathlib.Core.Path.{sym, ap, ◌∙◌}
 use native.Mathlib.Omega.{arith}
-use Rattle.path.specs.Records.{link_points}
 use Rattle.path.specs.Sound.{all_numbered}
-use Rattle.path.proofs.LinkPoints.{links_from, links-all}
+use Rattle.path.proofs.LinkPoints.{links-all}
 use Rattle.path.proofs.Ordered.{number_more, number-end}
 use Rattle.path.proofs.sound.all_numbered.Goals as goal
 

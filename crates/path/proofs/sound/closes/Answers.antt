@@ -1,7 +1,6 @@
 -- `closes`: with no record the answer is no; otherwise the last one is record m - 1.
 use Prim.Native.Nat.{◌-◌}
 use native.Mathlib.Omega.{arith}
-use borrow.Author.Rules.{rules}
 use lib.Ieee.{eq}
 use Rattle.column.specs.Records.{records}
 use Rattle.column.proofs.Bridge.{length-records}

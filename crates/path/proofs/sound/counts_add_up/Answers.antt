@@ -2,7 +2,6 @@
 use Prim.Native.Nat.{◌≤◌}
 use native.Mathlib.Omega.{arith}
 use mathlib.Core.Bool.{Bool, true, false}
-use borrow.Author.Rules.{rules}
 use Rattle.path.specs.Sound.{spare, add_up}
 use Rattle.path.proofs.sound.counts_add_up.Goals as goal
 

@@ -1,11 +1,10 @@
 -- `counts_lead`: before point i stand the sums, which are its first records, and the answer for the points before it.
-use Prim.Native.Nat.{◌-◌}
 use native.Mathlib.Omega.{arith}
 use mathlib.Core.Path.{sym}
 use Rattle.lookup.specs.Coeff.{coeffs}
 use Rattle.path.specs.Records.{grade_count_of, curve_count_of, power_count_of}
 use Rattle.path.proofs.Counts.{counts-small, counted-small, counted-fits}
-use Rattle.path.proofs.Lead.{Led, led-none, led-more, grades-over, curves-over, led-all}
+use Rattle.path.proofs.Lead.{led-none, led-more, grades-over, curves-over, led-all}
 use Rattle.path.proofs.sound.counts_lead.Goals as goal
 
 pub loop-i-init : goal.loop-i-init

@@ -6,7 +6,6 @@ use Rattle.path.specs.declared.link_point.LinkPoint.{LinkPoint}
 use Rattle.path.specs.Records.{grade_count_of, curve_count_of, power_count_of}
 use Rattle.path.specs.Sound.{end_counts_zero}
 use Rattle.path.proofs.LinkPoints.{end-at}
-use borrow.Author.Rules.{rules}
 use Rattle.path.proofs.sound.end_counts_zero.Goals as goal
 
 pub link_point_at-end-requires : goal.link_point_at-end-requires

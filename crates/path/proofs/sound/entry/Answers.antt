@@ -1,5 +1,4 @@
 -- `entry`: within the column the entry is the one that is read.
-use borrow.Author.Rules.{rules}
 use Rattle.column.proofs.Filling.{get_d-within}
 use Rattle.path.proofs.sound.entry.Goals as goal
 

@@ -1,10 +1,7 @@
 -- `offsets_rise`: the answer for the link points before i, and that for those from i on, are the answer.
-use Prim.Native.Nat.{◌-◌, ◌≤◌, ◌<◌}
-use mathlib.Core.Path.{◌≡◌, sym, ◌∙◌}
+use mathlib.Core.Path.{sym, ◌∙◌}
 use native.Mathlib.Omega.{arith}
-use Rattle.path.specs.Records.{link_points}
-use Rattle.path.specs.Sound.{offsets_rise}
-use Rattle.path.proofs.Ordered.{risen, rise-first, rise-more, rise-end}
+use Rattle.path.proofs.Ordered.{rise-first, rise-more, rise-end}
 use Rattle.path.proofs.sound.offsets_rise.Goals as goal
 
 pub loop-i-init : goal.loop-i-init

@@ -1,5 +1,4 @@
 -- `path_sound`: one record of each kind, counts within the columns, and then the other clauses.
-use borrow.Author.Tests.{not-true, not-false}
 use mathlib.Core.Path.{sym, ◌∙◌}
 use Rattle.path.specs.Records.{columns}
 use Rattle.path.proofs.Clauses.{sound_none, sound-past, sound_more}

@@ -1,8 +1,7 @@
 -- `sorted_from`: the answer for the speed points before i, and that for those from i on, are the answer.
 use Prim.Native.Nat.{◌-◌, ◌≤◌, ◌<◌}
-use mathlib.Core.Path.{◌≡◌, refl, sym, ◌∙◌}
-use native.Mathlib.Omega.{arith}
-use Rattle.path.proofs.Ordered.{sorted, sorted-first, sorted_more, sorted-end}
+use mathlib.Core.Path.{◌≡◌}
+use Rattle.path.proofs.Ordered.{sorted}
 use Rattle.path.proofs.sound.sorted_from.Given as goal
 
 abbrev pub invariant-loop-i : goal.invariant-loop-i

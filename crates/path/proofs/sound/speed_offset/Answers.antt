@@ -1,6 +1,5 @@
 -- `speed_offset`: the first entry of the record.
 use mathlib.Core.Path.{sym, ap, ◌∙◌}
-use borrow.Author.Rules.{rules}
 use Rattle.column.specs.declared.Two.{Two}
 use Rattle.column.proofs.Entry.{two-entries}
 use Rattle.path.proofs.sound.speed_offset.Goals as goal

@@ -1,7 +1,6 @@
 -- `within_bounds`: the five kinds of record, in the definition's order.
 use mathlib.Core.Path.{ap₂}
 use mathlib.Core.Bool.{◌&&◌}
-use borrow.Author.Rules.{rules}
 use Rattle.path.specs.Sound.{within_bounds}
 use Rattle.path.proofs.sound.within_bounds.Goals as goal
 

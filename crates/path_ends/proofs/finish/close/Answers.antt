@@ -1,7 +1,6 @@
 -- `close`: the last record is read, and the one after it stored.
 use lib.Ieee.{of_bits}
 use Rattle.lookup.proofs.Coeffs.{infinity}
-use borrow.Author.Rules.{rules}
 use Rattle.path_ends.proofs.finish.close.Goals as goal
 
 pub returns : goal.returns

@@ -1,10 +1,9 @@
 -- `finish`: refused, and then zeros past the counts and the two closing records.
-use mathlib.Core.Path.{refl, sym, ap, ◌∙◌}
+use mathlib.Core.Path.{sym, ap, ◌∙◌}
 use Rattle.path.specs.declared.path_tpc.Answer.{Answer}
 use Rattle.path.specs.Records.{columns}
 use Rattle.path.proofs.Clauses.{sound-within, some-records, bounds}
 use Rattle.path_ends.proofs.Closed.{finish-done, refused, closed}
-use borrow.Author.Rules.{rules}
 use Rattle.path_ends.proofs.finish.finish.Goals as goal
 
 pub returns-then-answer-ne0 : goal.returns-then-answer-ne0

@@ -5,7 +5,6 @@ use mathlib.Core.Bool.{not, ◌&&◌}
 use Rattle.path.specs.Records.{columns}
 use Rattle.path.specs.Answers.{ask}
 use Rattle.path_ends.proofs.Closed.{finish-first, finish-3, finish-9, few-records}
-use borrow.Author.Rules.{rules}
 use Rattle.path_ends.proofs.finish.finish_answer.Goals as goal
 
 pub returns-then-first-ne0 : goal.returns-then-first-ne0

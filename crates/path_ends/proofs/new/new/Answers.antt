@@ -1,10 +1,7 @@
 -- `new`: question 1, question 9, and then zeros and the speed point.
-use mathlib.Core.Path.{refl, ◌∙◌}
 use lib.Ieee.{of_bits}
-use borrow.Author.Tests.{not-true, not-false}
 use Rattle.path.specs.Records.{columns}
 use Rattle.path_ends.proofs.Made.{refused-by-1, refused-by-9, made_by}
-use borrow.Author.Rules.{rules}
 use Rattle.path_ends.proofs.new.new.Goals as goal
 
 pub returns-then-not-train_finite : goal.returns-then-not-train_finite

@@ -1,9 +1,7 @@
 -- `extend`: refused, and then zeros past the counts and the listed links.
-use mathlib.Core.Path.{refl, ◌∙◌}
 use Rattle.link.specs.Table.{table_of}
 use Rattle.path.specs.Records.{columns}
 use Rattle.path_extend.proofs.Extended.{refused, within, ready-sound, ready, extended}
-use borrow.Author.Rules.{rules}
 use Rattle.path_extend.proofs.extend.extend.Goals as goal
 
 pub returns-then-answer-ne0 : goal.returns-then-answer-ne0

@@ -11,7 +11,6 @@ use Rattle.path.specs.Answers.{links_answer}
 use Rattle.path.specs.Sound.{path_answer}
 use Rattle.path_speeds.proofs.Few.{all-few}
 use Rattle.path_extend.proofs.Asked.{extend-first, known-sound, extend-3, extend-named, extend-sums, named-formed}
-use borrow.Author.Rules.{rules}
 use Rattle.path_extend.proofs.extend.extend_answer.Goals as goal
 
 pub returns-then-first-ne0 : goal.returns-then-first-ne0

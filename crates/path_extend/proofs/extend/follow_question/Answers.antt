@@ -1,6 +1,5 @@
 -- `follow_question`: a path without links, and one with links.
 use Rattle.path_extend.proofs.Asked.{follows-none, follows-last}
-use borrow.Author.Rules.{rules}
 use Rattle.path_extend.proofs.extend.follow_question.Goals as goal
 
 pub returns-then-n-lt2 : goal.returns-then-n-lt2

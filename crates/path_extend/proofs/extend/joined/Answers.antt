@@ -1,12 +1,11 @@
 -- `joined`: one kind of record after the other.
 use native.Mathlib.Omega.{arith}
-use mathlib.Core.Path.{ap, ◌∙◌}
+use mathlib.Core.Path.{ap}
 use Rattle.lookup.specs.Coeff.{stands_at}
 use Rattle.link.specs.Table.{table_of}
 use Rattle.path.specs.Records.{columns}
 use Rattle.path_extend.proofs.Assembled.{first-length, first-held, assembled}
 use Rattle.path_extend.proofs.Prepared.{some, points-fit, points-hold, limits-few, limits-room, speeds-hold, grades-room, grades-hold, grades-fit, curves-hold, curves-fit, powers-fit, powers-hold}
-use borrow.Author.Rules.{rules}
 use Rattle.path_extend.proofs.extend.joined.Goals as goal
 
 pub overflow_sub-p : goal.overflow_sub-p

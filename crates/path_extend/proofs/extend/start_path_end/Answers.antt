@@ -5,7 +5,6 @@ use Rattle.lookup.specs.Coeff.{stands_at, net_of}
 use Rattle.path_join.specs.Joined.{starting_net}
 use Rattle.path_extend.specs.Ready.{start_path_end}
 use Rattle.path_extend.proofs.PathEnds.{same-path-end}
-use borrow.Author.Rules.{rules}
 use Rattle.path_extend.proofs.extend.start_path_end.Goals as goal
 
 pub overflow_sub-p-3 : goal.overflow_sub-p-3

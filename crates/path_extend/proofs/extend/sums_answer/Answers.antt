@@ -8,7 +8,6 @@ use Rattle.path.proofs.Clauses.{sound-within, some-link, some-records}
 use Rattle.path_join.specs.declared.path_end.PathEnd.{PathEnd}
 use Rattle.path_join.specs.Sums.{sums_from}
 use Rattle.path_extend.proofs.Asked.{path-end-start, sums-8, sums-9}
-use borrow.Author.Rules.{rules}
 use Rattle.path_extend.proofs.extend.sums_answer.Goals as goal
 
 pub start_path_end-start-requires : goal.start_path_end-start-requires

@@ -1,11 +1,9 @@
 -- `sum_counts`: the counts from link k on and the sums before are the sums of all.
-use Prim.Native.Nat.{◌+◌, ◌-◌}
 use native.Mathlib.Omega.{arith}
-use mathlib.Core.Path.{◌≡◌, ap, ◌∙◌}
-use lib.ListN.{length, drop}
+use mathlib.Core.Path.{ap, ◌∙◌}
 use Rattle.link.specs.declared.network.LinkNumbers.{LinkNumbers}
 use Rattle.path_stretches.specs.Stretches.{record_count}
-use Rattle.path_join.specs.Listed.{grades_in, curves_in, powers_in, sum_of}
+use Rattle.path_join.specs.Listed.{grades_in, curves_in, powers_in}
 use Rattle.path_join.proofs.Summed.{sum_fits, sum-next, sum_done, counted, grades-small, curves-small, powers-small}
 use Rattle.path_join.proofs.fit.sum_counts.Goals as goal
 

@@ -1,12 +1,9 @@
 -- `sum_limits`: the counts from link k on and the sum before are the sum of all.
 use Rattle.link.proofs.Known.{every_in}
-use Prim.Native.Nat.{ℕ, ◌+◌, ◌-◌}
+use Prim.Native.Nat.{ℕ}
 use native.Mathlib.Omega.{arith}
-use mathlib.Core.Path.{◌≡◌}
-use lib.ListN.{length, drop}
 use Rattle.path_speeds.specs.Limits.{speed_sets, few_at, count_at}
 use Rattle.path_speeds.proofs.Applying.{count_small}
-use Rattle.path_join.specs.Listed.{sum_of}
 use Rattle.path_join.proofs.Summed.{sum_fits, sum-next, sum_done}
 use Rattle.path_join.proofs.fit.sum_limits.Goals as goal
 

@@ -2,7 +2,6 @@
 use native.Mathlib.Omega.{arith}
 use Rattle.path_join.specs.Listed.{rises}
 use Rattle.path_join.proofs.Starting.{ends-flat, ends_there, ends_last}
-use borrow.Author.Rules.{rules}
 use Rattle.path_join.proofs.join.grade_end.Goals as goal
 
 pub returns-then-count-eq0 : goal.returns-then-count-eq0

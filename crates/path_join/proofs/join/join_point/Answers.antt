@@ -4,7 +4,6 @@ use Prim.Native.Nat.{◌^◌}
 use native.Mathlib.Omega.{arith}
 use mathlib.Core.Path.{◌∙◌}
 use Rattle.path_join.proofs.OnPoints.{point-joined}
-use borrow.Author.Rules.{rules}
 use Rattle.path_join.proofs.join.join_point.Goals as goal
 
 pub overflow_cast-grades : goal.overflow_cast-grades

@@ -1,12 +1,8 @@
 -- `join_points`: with the points of the links that are left the points so far are those of all.
-use Prim.Native.Nat.{◌+◌, ◌-◌, ◌≤◌}
 use native.Mathlib.Omega.{arith}
-use mathlib.Core.Path.{◌≡◌, refl, ◌∙◌}
-use lib.ListN.{length, drop}
-use Rattle.path.specs.Records.{link_points}
-use Rattle.path_join.specs.ByKind.{joined_points}
+use mathlib.Core.Path.{refl, ◌∙◌}
 use Rattle.path_join.proofs.Left.{left-next, left-none}
-use Rattle.path_join.proofs.OnPoints.{PointsLeft, points-first, points-next, points-done}
+use Rattle.path_join.proofs.OnPoints.{points-first, points-next, points-done}
 use Rattle.path_join.proofs.join.join_points.Goals as goal
 
 pub loop-k-init : goal.loop-k-init

@@ -1,13 +1,8 @@
 -- `join_powers`: with the limits of the links that are left the limits so far are those of all.
-use Prim.Native.Nat.{◌-◌}
 use native.Mathlib.Omega.{arith}
 use mathlib.Core.Path.{refl}
-use lib.ListN.{length, drop}
-use Rattle.path.specs.Records.{power_limits}
-use Rattle.path_join.specs.Listed.{rises}
-use Rattle.path_join.specs.ByKind.{joined_powers}
 use Rattle.path_join.proofs.Left.{left-next, left-none}
-use Rattle.path_join.proofs.OnPowers.{PowersLeft, powers-room, powers-next, powers-done}
+use Rattle.path_join.proofs.OnPowers.{powers-room, powers-next, powers-done}
 use Rattle.path_join.proofs.join.join_powers.Goals as goal
 
 pub loop-k-init : goal.loop-k-init

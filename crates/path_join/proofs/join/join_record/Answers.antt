@@ -3,7 +3,6 @@ use native.Mathlib.Omega.{arith}
 use Rattle.lookup.specs.Coeff.{coeffs}
 use Rattle.path_join.specs.Listed.{rises}
 use Rattle.path_join.proofs.OnRecords.{curves-room, curves-joined, grades-room, grades-joined}
-use borrow.Author.Rules.{rules}
 use Rattle.path_join.proofs.join.join_record.Goals as goal
 
 pub lay_stretches-requires : goal.lay_stretches-requires

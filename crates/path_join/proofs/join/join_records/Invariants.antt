@@ -1,13 +1,10 @@
 -- `join_records`: with the records of the links that are left the records so far are those of all.
 use Prim.Native.Nat.{◌-◌}
-use native.Mathlib.Omega.{arith}
-use mathlib.Core.Path.{refl}
 use lib.ListN.{length, drop}
 use Rattle.lookup.specs.Coeff.{coeffs}
 use Rattle.path_join.specs.Listed.{rises}
 use Rattle.path_join.specs.ByKind.{joined_records}
-use Rattle.path_join.proofs.Left.{left-next, left-none}
-use Rattle.path_join.proofs.OnRecords.{RecordsLeft, records-room, records-next, records-done}
+use Rattle.path_join.proofs.OnRecords.{RecordsLeft}
 use Rattle.path_join.proofs.join.join_records.Given as goal
 
 abbrev pub invariant-loop-k : goal.invariant-loop-k

@@ -1,6 +1,5 @@
 -- `start_net`: the last record of the column, with another net value.
 use Rattle.path_join.proofs.Starting.{net-stored}
-use borrow.Author.Rules.{rules}
 use Rattle.path_join.proofs.join.start_net.Goals as goal
 
 pub returns : goal.returns

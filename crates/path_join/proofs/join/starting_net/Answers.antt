@@ -2,7 +2,6 @@
 use native.Mathlib.Omega.{arith}
 use mathlib.Core.Path.{sym}
 use Rattle.path_join.proofs.Starting.{net-kept, net-unlisted, net-flat, net-first}
-use borrow.Author.Rules.{rules}
 use Rattle.path_join.proofs.join.starting_net.Goals as goal
 
 pub returns-then-m-ne1 : goal.returns-then-m-ne1

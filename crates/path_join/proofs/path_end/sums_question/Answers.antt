@@ -1,13 +1,9 @@
 -- `sums_question`: from link k on the first no is that of all.
 use Rattle.link.proofs.Known.{every_in}
-use Prim.Native.Nat.{◌-◌}
 use native.Mathlib.Omega.{arith}
-use mathlib.Core.Path.{◌≡◌, refl, sym, ◌∙◌}
-use lib.ListN.{length, drop}
-use Rattle.link.specs.Lists.{first_no, first_no_from}
+use mathlib.Core.Path.{sym, ◌∙◌}
 use Rattle.link.specs.Table.{table_of}
 use Rattle.path_speeds.specs.Limits.{sets_of, few_at}
-use Rattle.path_join.specs.Sums.{sums_from}
 use Rattle.path_join.proofs.Carried.{sums-pass, sums-fail, sums-end}
 use Rattle.path_join.proofs.path_end.sums_question.Goals as goal
 

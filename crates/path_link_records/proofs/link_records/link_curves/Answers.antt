@@ -2,7 +2,6 @@
 use mathlib.Core.Bool.{true}
 use Rattle.path.specs.Records.{columns}
 use Rattle.path_link_records.proofs.LinkParts.{inside, none-handed, part-handed}
-use borrow.Author.Rules.{rules}
 use Rattle.path_link_records.proofs.link_records.link_curves.Goals as goal
 
 pub returns-then-answer-ne0 : goal.returns-then-answer-ne0

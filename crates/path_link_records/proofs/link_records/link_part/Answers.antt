@@ -1,10 +1,7 @@
 -- `link_part`: the range that its records have, as a part of the column.
-use Prim.Native.Nat.{◌+◌, ◌≤◌}
-use lib.ListN.{length}
 use native.Mathlib.Omega.{arith}
 use Rattle.path.specs.Sound.{count_of}
 use Rattle.path_link_records.proofs.LinkParts.{range-end, part-is}
-use borrow.Author.Rules.{rules}
 use Rattle.path_link_records.proofs.link_records.link_part.Goals as goal
 
 pub overflow_add-to : goal.overflow_add-to

@@ -1,7 +1,6 @@
 -- `link_range`: refused with nothing from 0, or the range of the link's records.
 use Rattle.path.specs.Records.{columns}
 use Rattle.path_link_records.proofs.LinkParts.{inside, no-range, range-handed}
-use borrow.Author.Rules.{rules}
 use Rattle.path_link_records.proofs.link_records.link_range.Goals as goal
 
 pub returns-then-answer-ne0 : goal.returns-then-answer-ne0

@@ -2,7 +2,6 @@
 use mathlib.Core.Path.{sym, ◌∙◌}
 use Rattle.path.specs.Records.{columns}
 use Rattle.path_link_records.proofs.LinkParts.{part-first, part-10, part-past}
-use borrow.Author.Rules.{rules}
 use Rattle.path_link_records.proofs.link_records.part_answer.Goals as goal
 
 pub returns-then-first-ne0 : goal.returns-then-first-ne0

@@ -2,7 +2,6 @@
 use mathlib.Core.Path.{refl}
 use native.Mathlib.Omega.{arith}
 use Rattle.path_link_records.proofs.LinkParts.{located, range-is}
-use borrow.Author.Rules.{rules}
 use Rattle.path_link_records.proofs.link_records.record_range.Goals as goal
 
 pub overflow_mul-from : goal.overflow_mul-from

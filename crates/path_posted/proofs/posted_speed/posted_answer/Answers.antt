@@ -1,5 +1,4 @@
 -- `posted_answer`: the questions in their order.
-use borrow.Author.Rules.{rules}
 use Rattle.path.specs.Records.{columns}
 use Rattle.path_posted.proofs.Answered.{posted-first, posted-10}
 use Rattle.path_posted.proofs.posted_speed.posted_answer.Goals as goal

@@ -1,5 +1,4 @@
 -- `posted_speed`: refused with +0, or the speed that the search finds.
-use borrow.Author.Rules.{rules}
 use lib.Ieee.{of_bits}
 use Rattle.path.specs.Records.{columns}
 use Rattle.path_posted.proofs.Answered.{no-speed, searchable, speed-handed}

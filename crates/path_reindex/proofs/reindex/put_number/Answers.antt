@@ -1,5 +1,4 @@
 -- `put_number`: the record is read, and stored with another number.
-use borrow.Author.Rules.{rules}
 use Rattle.path_reindex.proofs.reindex.put_number.Goals as goal
 
 pub returns : goal.returns

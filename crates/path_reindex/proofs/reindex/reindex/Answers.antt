@@ -1,7 +1,6 @@
 -- `reindex`: refused, and then zeros past the counts and the new numbers.
 use Rattle.path.specs.Records.{columns}
 use Rattle.path_reindex.proofs.Renumbered.{refused, within, ready, reindexed}
-use borrow.Author.Rules.{rules}
 use Rattle.path_reindex.proofs.reindex.reindex.Goals as goal
 
 pub returns-then-answer-ne0 : goal.returns-then-answer-ne0

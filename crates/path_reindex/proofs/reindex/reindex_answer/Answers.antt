@@ -2,7 +2,6 @@
 use mathlib.Core.Path.{sym, ◌∙◌}
 use Rattle.path.specs.Records.{columns}
 use Rattle.path_reindex.proofs.Renumbered.{reindex-first, reindex-4, some-points}
-use borrow.Author.Rules.{rules}
 use Rattle.path_reindex.proofs.reindex.reindex_answer.Goals as goal
 
 pub returns-then-first-ne0 : goal.returns-then-first-ne0

@@ -1,12 +1,11 @@
 -- `renumber`: before each turn i records have their new numbers.
 use mathlib.Core.Path.{◌≡◌, refl, ◌∙◌}
-use Prim.Native.Nat.{◌-◌, ◌≤◌}
+use Prim.Native.Nat.{◌-◌}
 use native.Mathlib.Omega.{arith}
 use lib.ListN.{length}
 use Rattle.column.specs.Records.{records, four}
 use Rattle.path_reindex.specs.Fours.{renumbered_fours}
-use Rattle.path_reindex.proofs.Fours.{Partly, partly_none, partly_more, partly-end}
-use borrow.Author.Rules.{rules}
+use Rattle.path_reindex.proofs.Fours.{partly_none, partly_more, partly-end}
 use Rattle.path_reindex.proofs.reindex.renumber.Goals as goal
 
 pub loop-i-init : goal.loop-i-init

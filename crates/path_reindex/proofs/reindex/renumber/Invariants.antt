@@ -1,12 +1,10 @@
 -- `renumber`: before each turn i records have their new numbers.
-use mathlib.Core.Path.{◌≡◌, refl, ◌∙◌}
+use mathlib.Core.Path.{◌≡◌}
 use Prim.Native.Nat.{◌-◌, ◌≤◌}
-use native.Mathlib.Omega.{arith}
 use lib.ListN.{length}
 use Rattle.column.specs.Records.{records, four}
 use Rattle.path_reindex.specs.Fours.{renumbered_fours}
-use Rattle.path_reindex.proofs.Fours.{Partly, partly_none, partly_more, partly-end}
-use borrow.Author.Rules.{rules}
+use Rattle.path_reindex.proofs.Fours.{Partly}
 use Rattle.path_reindex.proofs.reindex.renumber.Given as goal
 
 abbrev pub invariant-loop-i : goal.invariant-loop-i

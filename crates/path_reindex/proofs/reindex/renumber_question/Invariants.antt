@@ -1,14 +1,10 @@
 -- `renumber_question`: from k on the first no is that of all the points.
 use Prim.Native.Nat.{◌-◌}
-use native.Mathlib.Nat.{sub-zero}
-use native.Mathlib.Omega.{arith}
-use mathlib.Core.Path.{◌≡◌, sym, ◌∙◌}
+use mathlib.Core.Path.{◌≡◌}
 use mathlib.Core.Bool.{true}
 use mathlib.Core.List.{map}
 use Rattle.link.specs.Lists.{up_from, first_no, first_no_from}
 use Rattle.link.specs.Questions.{number_at, numbers}
-use Rattle.link.proofs.Judging.{said-no-of, said-yes-of}
-use Rattle.link.proofs.Loops.{first-pass, first-fail, first-end}
 use Rattle.path_reindex.specs.Reindex.{renumbers}
 use Rattle.path_reindex.proofs.reindex.renumber_question.Given as goal
 

@@ -1,7 +1,6 @@
 -- `renumbers`: a number that the list has, and one past it.
 use mathlib.Core.Path.{sym}
 use Rattle.path_reindex.proofs.Renumbered.{in_list, past-list}
-use borrow.Author.Rules.{rules}
 use Rattle.path_reindex.proofs.reindex.renumbers.Goals as goal
 
 pub returns-then-i-new : goal.returns-then-i-new

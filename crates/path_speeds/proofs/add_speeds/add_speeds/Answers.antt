@@ -8,7 +8,6 @@ use Rattle.link.specs.Train.{top_speed}
 use Rattle.path_speeds.specs.Limits.{speed_sets, laying, lay_all, laying_at}
 use Rattle.path_speeds.proofs.Applying.{few-at, laying-by, count_by, laying-none}
 use Rattle.path_speeds.proofs.Lowered.{laid_none}
-use borrow.Author.Rules.{rules}
 use Rattle.path_speeds.proofs.add_speeds.add_speeds.Goals as goal
 
 pub applying_set-requires : goal.applying_set-requires

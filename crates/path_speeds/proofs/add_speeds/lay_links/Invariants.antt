@@ -1,17 +1,12 @@
 -- `lay_links`: what is left to lay from point k on gives what was to be laid at first.
 use Prim.Native.Nat.{◌+◌, ◌-◌}
-use native.Mathlib.Omega.{arith}
-use mathlib.Core.Path.{◌≡◌, ap, ◌∙◌}
+use mathlib.Core.Path.{◌≡◌}
 use mathlib.Core.Bool.{true}
 use Rattle.link.specs.Lists.{every, up_from}
 use Rattle.path.specs.Records.{point_at}
 use Rattle.speed.specs.Column.{points}
-use Rattle.link.proofs.Loops.{whole-range, range_none, range-next}
-use Rattle.path.specs.Sound.{total}
-use Rattle.path_speeds.specs.Limits.{speed_sets, point_few, point_count, lay_links}
-use Rattle.path_speeds.proofs.LayingLoop.{going-first}
-use Rattle.path_speeds.proofs.LinkLimits.{LinksLeft, links-room, links-next, links-done}
-use Rattle.link.proofs.Known.{every-next}
+use Rattle.path_speeds.specs.Limits.{speed_sets, point_few, lay_links}
+use Rattle.path_speeds.proofs.LinkLimits.{LinksLeft}
 use Rattle.path_speeds.proofs.add_speeds.lay_links.Given as goal
 
 abbrev pub invariant-loop-k : goal.invariant-loop-k

@@ -4,7 +4,6 @@ use Rattle.link.specs.declared.speed_set.SetFound.TheVariants.{Found, Missing}
 use Rattle.link.specs.Train.{top_speed}
 use Rattle.path_speeds.specs.Limits.{speed_sets}
 use Rattle.path_speeds.proofs.Applying.{few-at, finite-by, finite-none}
-use borrow.Author.Rules.{rules}
 use Rattle.path_speeds.proofs.add_speeds.link_finite.Goals as goal
 
 pub applying_set-requires : goal.applying_set-requires

@@ -1,9 +1,7 @@
 -- `points_count`: the counts from point k on and the sum before are the sum of all.
-use Prim.Native.Nat.{◌+◌, ◌-◌, ◌*◌, ◌^◌, ◌≤◌}
 use native.Mathlib.Nat.{sub-zero}
 use native.Mathlib.Omega.{arith}
-use mathlib.Core.Path.{◌≡◌, ap, ◌∙◌}
-use mathlib.Core.Bool.{true}
+use mathlib.Core.Path.{ap, ◌∙◌}
 use Rattle.link.specs.Lists.{every, up_from}
 use Rattle.path.specs.Records.{point_at}
 use Rattle.path.specs.Sound.{total}

@@ -1,16 +1,11 @@
 -- `points_count`: the counts from point k on and the sum before are the sum of all.
 use Prim.Native.Nat.{◌+◌, ◌-◌, ◌*◌, ◌^◌, ◌≤◌}
-use native.Mathlib.Nat.{sub-zero}
-use native.Mathlib.Omega.{arith}
-use mathlib.Core.Path.{◌≡◌, ap, ◌∙◌}
+use mathlib.Core.Path.{◌≡◌}
 use mathlib.Core.Bool.{true}
 use Rattle.link.specs.Lists.{every, up_from}
 use Rattle.path.specs.Records.{point_at}
 use Rattle.path.specs.Sound.{total}
 use Rattle.path_speeds.specs.Limits.{speed_sets, point_few, point_count}
-use Rattle.path_speeds.proofs.Applying.{count_small}
-use Rattle.link.proofs.Known.{every-next}
-use Rattle.path.proofs.Counts.{range-total, range-total-end}
 use Rattle.path_speeds.proofs.add_speeds.points_count.Given as goal
 
 abbrev pub invariant-loop-k : goal.invariant-loop-k

@@ -1,11 +1,9 @@
 -- `points_finite`: from point k on the first no is that of all.
-use Prim.Native.Nat.{◌-◌}
 use native.Mathlib.Nat.{sub-zero}
 use native.Mathlib.Omega.{arith}
-use mathlib.Core.Path.{◌≡◌, sym, ap, ◌∙◌}
-use mathlib.Core.Bool.{true}
+use mathlib.Core.Path.{sym, ap, ◌∙◌}
 use mathlib.Core.List.{List, map}
-use Rattle.link.specs.Lists.{every, up_from, first_no, first_no_from}
+use Rattle.link.specs.Lists.{every, up_from, first_no}
 use Rattle.path.specs.declared.link_point.LinkPoint.{LinkPoint}
 use Rattle.path.specs.Records.{point_at}
 use Rattle.link.proofs.Judging.{said-no-of, said-yes-of}

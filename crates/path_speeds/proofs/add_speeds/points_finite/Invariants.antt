@@ -1,17 +1,11 @@
 -- `points_finite`: from point k on the first no is that of all.
 use Prim.Native.Nat.{◌-◌}
-use native.Mathlib.Nat.{sub-zero}
-use native.Mathlib.Omega.{arith}
-use mathlib.Core.Path.{◌≡◌, sym, ap, ◌∙◌}
+use mathlib.Core.Path.{◌≡◌}
 use mathlib.Core.Bool.{true}
-use mathlib.Core.List.{List, map}
+use mathlib.Core.List.{map}
 use Rattle.link.specs.Lists.{every, up_from, first_no, first_no_from}
-use Rattle.path.specs.declared.link_point.LinkPoint.{LinkPoint}
 use Rattle.path.specs.Records.{point_at}
-use Rattle.link.proofs.Judging.{said-no-of, said-yes-of}
-use Rattle.link.proofs.Loops.{first-pass, first-fail, first-end}
 use Rattle.path_speeds.specs.Limits.{speed_sets, point_few, point_finite}
-use Rattle.link.proofs.Known.{every-next}
 use Rattle.path_speeds.proofs.add_speeds.points_finite.Given as goal
 
 abbrev pub invariant-loop-k : goal.invariant-loop-k

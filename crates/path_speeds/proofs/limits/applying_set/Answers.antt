@@ -5,7 +5,6 @@ use mathlib.Core.Bool.{true, false}
 use Rattle.link.specs.Table.{set_at}
 use Rattle.link.proofs.Formed.{set_is}
 use Rattle.path_speeds.proofs.Applying.{none-applies, few-conditions, if-applies}
-use borrow.Author.Rules.{rules}
 use Rattle.path_speeds.proofs.limits.applying_set.Goals as goal
 
 pub returns-in_default : goal.returns-in_default

@@ -1,5 +1,4 @@
 -- `laid_finite`: a limit that is not laid, and the three sums.
-use borrow.Author.Rules.{rules}
 use mathlib.Core.Path.{ap}
 use mathlib.Core.Bool.{not}
 use Rattle.path_speeds.proofs.limits.laid_finite.Goals as goal

@@ -1,8 +1,7 @@
 -- `lay_limits`: what is left to lay from limit i on gives what was to be laid at first.
-use Prim.Native.Nat.{◌+◌, ◌-◌}
+use Prim.Native.Nat.{◌+◌}
 use native.Mathlib.Omega.{arith}
 use mathlib.Core.Path.{refl, ap}
-use mathlib.Core.Logic.{⊎_elim}
 use lib.ListN.{length}
 use Rattle.speed.specs.Column.{points}
 use Rattle.speed.proofs.PointColumn.{leaves_at}
@@ -10,7 +9,7 @@ use Rattle.link.specs.declared.speed_set.SetFound.TheVariants.{Found}
 use Rattle.link.specs.Table.{limit_of}
 use Rattle.path_speeds.specs.Limits.{lay_all, laying}
 use Rattle.path_speeds.proofs.Lowered.{limits_end, to_lay, lay-next, lay-skip, lay-end, lay-whole, length_whole}
-use Rattle.path_speeds.proofs.LayingLoop.{LimitsLeft, going-first, limits-next, limits-skip, limits-done}
+use Rattle.path_speeds.proofs.LayingLoop.{going-first, limits-next, limits-skip, limits-done}
 use Rattle.path_speeds.proofs.limits.lay_limits.Goals as goal
 use Rattle.path_speeds.proofs.limits.lay_limits.Goals.{then-l-top, else-l-top}
 
@@ -47,10 +46,10 @@ loop-i-preserved c =
     let left = to_lay top base tail limits end in
     let l = limit_of c.speed_limit_at-l.result in
     elim c.if-l-top.branch [
-      then-l-top w ↦
-        let r = w.insert_speed-m in
-        rw (w.col-is, w.m-is) (limits-next a.col.now goal (left o.i) o.col o.m o.invariant (limit_of w.placed.result) (left (o.i + 1)) r.new.col r.result (lay-next top base tail limits end o.i c.loop-i-test.true l c.speed_limit_at-l.ensures (limit_of w.placed.result) w.placed.ensures w.if-l-top.true) r.ensures r.auto.col)
-    | else-l-top w ↦ rw (w.col-is, w.m-is) (limits-skip a.col.now goal (left o.i) o.col o.m o.invariant (left (o.i + 1)) (lay-skip top base tail limits end o.i c.loop-i-test.true l c.speed_limit_at-l.ensures w.if-l-top.false))
+      | then-l-top w ↦
+          let r = w.insert_speed-m in
+          rw (w.col-is, w.m-is) (limits-next a.col.now goal (left o.i) o.col o.m o.invariant (limit_of w.placed.result) (left (o.i + 1)) r.new.col r.result (lay-next top base tail limits end o.i c.loop-i-test.true l c.speed_limit_at-l.ensures (limit_of w.placed.result) w.placed.ensures w.if-l-top.true) r.ensures r.auto.col)
+      | else-l-top w ↦ rw (w.col-is, w.m-is) (limits-skip a.col.now goal (left o.i) o.col o.m o.invariant (left (o.i + 1)) (lay-skip top base tail limits end o.i c.loop-i-test.true l c.speed_limit_at-l.ensures w.if-l-top.false))
     ]
 
 pub shape_of-col : goal.shape_of-col

@@ -1,16 +1,9 @@
 -- `lay_limits`: what is left to lay from limit i on gives what was to be laid at first.
-use Prim.Native.Nat.{◌+◌, ◌-◌}
-use native.Mathlib.Omega.{arith}
-use mathlib.Core.Path.{refl, ap}
-use mathlib.Core.Logic.{⊎_elim}
-use lib.ListN.{length}
+use Prim.Native.Nat.{◌-◌}
 use Rattle.speed.specs.Column.{points}
-use Rattle.speed.proofs.PointColumn.{leaves_at}
-use Rattle.link.specs.declared.speed_set.SetFound.TheVariants.{Found}
-use Rattle.link.specs.Table.{limit_of}
-use Rattle.path_speeds.specs.Limits.{lay_all, laying}
-use Rattle.path_speeds.proofs.Lowered.{limits_end, to_lay, lay-next, lay-skip, lay-end, lay-whole, length_whole}
-use Rattle.path_speeds.proofs.LayingLoop.{LimitsLeft, going-first, limits-next, limits-skip, limits-done}
+use Rattle.path_speeds.specs.Limits.{lay_all}
+use Rattle.path_speeds.proofs.Lowered.{to_lay}
+use Rattle.path_speeds.proofs.LayingLoop.{LimitsLeft}
 use Rattle.path_speeds.proofs.limits.lay_limits.Given as goal
 
 abbrev pub invariant-loop-i : goal.invariant-loop-i

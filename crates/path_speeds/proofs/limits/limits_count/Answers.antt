@@ -1,12 +1,9 @@
 -- `limits_count`: the limits from i on and those counted before are all of them.
-use Prim.Native.Nat.{◌+◌, ◌-◌, ◌≤◌}
 use native.Mathlib.Omega.{arith}
-use mathlib.Core.Path.{◌≡◌, sym, ap, ◌∙◌}
-use mathlib.Core.Logic.{⊎_elim}
+use mathlib.Core.Path.{sym, ap, ◌∙◌}
 use lib.ListN.{length}
-use Rattle.link.specs.Lists.{up_from}
 use Rattle.link.specs.Table.{limit_at}
-use Rattle.path_speeds.specs.Limits.{lowers, lowering}
+use Rattle.path_speeds.specs.Limits.{lowers}
 use Rattle.path_speeds.proofs.Lowered.{limits_end, lower-next, lower_skip, lower-end, count-whole}
 use Rattle.path_speeds.proofs.limits.limits_count.Goals as goal
 use Rattle.path_speeds.proofs.limits.limits_count.Goals.{then-speed_limit_at-top, else-speed_limit_at-top}
@@ -23,8 +20,8 @@ loop-i-preserved c =
     let end = limits_end a.s in
     let own = sym (ap (lowers top) c.speed_limit_at.ensures) in
     elim c.if-speed_limit_at-top.branch [
-      then-speed_limit_at-top w ↦ (omega arith, omega (arith, c.loop-i.invariant.1, ap length (lower-next top (limit_at limits) i end c.loop-i-test.true (own ∙ w.if-speed_limit_at-top.true))))
-    | else-speed_limit_at-top w ↦ (omega arith, omega (arith, c.loop-i.invariant.1, ap length (lower_skip top (limit_at limits) i end c.loop-i-test.true (own ∙ w.if-speed_limit_at-top.false))))
+      | then-speed_limit_at-top w ↦ (omega arith, omega (arith, c.loop-i.invariant.1, ap length (lower-next top (limit_at limits) i end c.loop-i-test.true (own ∙ w.if-speed_limit_at-top.true))))
+      | else-speed_limit_at-top w ↦ (omega arith, omega (arith, c.loop-i.invariant.1, ap length (lower_skip top (limit_at limits) i end c.loop-i-test.true (own ∙ w.if-speed_limit_at-top.false))))
     ]
 
 pub returns : goal.returns

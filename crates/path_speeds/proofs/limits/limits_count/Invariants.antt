@@ -1,13 +1,10 @@
 -- `limits_count`: the limits from i on and those counted before are all of them.
 use Prim.Native.Nat.{◌+◌, ◌-◌, ◌≤◌}
-use native.Mathlib.Omega.{arith}
-use mathlib.Core.Path.{◌≡◌, sym, ap, ◌∙◌}
-use mathlib.Core.Logic.{⊎_elim}
+use mathlib.Core.Path.{◌≡◌}
 use lib.ListN.{length}
 use Rattle.link.specs.Lists.{up_from}
 use Rattle.link.specs.Table.{limit_at}
-use Rattle.path_speeds.specs.Limits.{lowers, lowering}
-use Rattle.path_speeds.proofs.Lowered.{limits_end, lower-next, lower_skip, lower-end, count-whole}
+use Rattle.path_speeds.specs.Limits.{lowering}
 use Rattle.path_speeds.proofs.limits.limits_count.Given as goal
 
 abbrev pub invariant-loop-i : goal.invariant-loop-i

@@ -1,8 +1,5 @@
 -- `limits_finite`: from limit i on the answer is that from the first on.
-use Prim.Native.Nat.{◌-◌}
-use native.Mathlib.Omega.{arith}
-use mathlib.Core.Path.{◌≡◌, refl, sym, ◌∙◌}
-use Rattle.link.specs.Lists.{every, up_from}
+use mathlib.Core.Path.{sym, ◌∙◌}
 use Rattle.link.specs.Table.{limit_at, limit_of}
 use Rattle.link.proofs.Judging.{said-no-of, said-yes-of}
 use Rattle.link.proofs.Loops.{every-pass, every-fail, every-end}

@@ -1,13 +1,9 @@
 -- `limits_finite`: from limit i on the answer is that from the first on.
 use Prim.Native.Nat.{◌-◌}
-use native.Mathlib.Omega.{arith}
-use mathlib.Core.Path.{◌≡◌, refl, sym, ◌∙◌}
+use mathlib.Core.Path.{◌≡◌}
 use Rattle.link.specs.Lists.{every, up_from}
-use Rattle.link.specs.Table.{limit_at, limit_of}
-use Rattle.link.proofs.Judging.{said-no-of, said-yes-of}
-use Rattle.link.proofs.Loops.{every-pass, every-fail, every-end}
+use Rattle.link.specs.Table.{limit_at}
 use Rattle.path_speeds.specs.Limits.{laid_finite}
-use Rattle.path_speeds.proofs.Lowered.{limits_end, finite-whole}
 use Rattle.path_speeds.proofs.limits.limits_finite.Given as goal
 
 abbrev pub invariant-loop-i : goal.invariant-loop-i

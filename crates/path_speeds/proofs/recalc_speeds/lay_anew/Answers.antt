@@ -5,7 +5,6 @@ use Rattle.link.specs.Train.{top_speed}
 use Rattle.path.specs.Records.{point_at}
 use Rattle.path_speeds.specs.Limits.{speed_sets}
 use Rattle.path_speeds.proofs.Anew.{begun-held, begun-points, laid-anew}
-use borrow.Author.Rules.{rules}
 use Rattle.path_speeds.proofs.recalc_speeds.lay_anew.Goals as goal
 
 pub lay_links-requires : goal.lay_links-requires

@@ -8,7 +8,6 @@ use Rattle.path.specs.Records.{point_at, is_within_all}
 use Rattle.path.specs.Answers.{ask, ask_each}
 use Rattle.path_speeds.specs.Limits.{speed_sets}
 use Rattle.path_speeds.proofs.Recalced.{few-laid, limits-8, limits-9}
-use borrow.Author.Rules.{rules}
 use Rattle.path_speeds.proofs.recalc_speeds.limits_answer.Goals as goal
 
 pub returns-then-first-ne0 : goal.returns-then-first-ne0

@@ -6,7 +6,6 @@ use Rattle.link.specs.Table.{table_of}
 use Rattle.path.specs.Records.{columns}
 use Rattle.path.specs.Sound.{path_answer}
 use Rattle.path_speeds.proofs.Recalced.{recalc-first, link-bounds, recalc-links, range-few, recalc-limits}
-use borrow.Author.Rules.{rules}
 use Rattle.path_speeds.proofs.recalc_speeds.recalc_answer.Goals as goal
 
 pub returns-then-first-ne0 : goal.returns-then-first-ne0

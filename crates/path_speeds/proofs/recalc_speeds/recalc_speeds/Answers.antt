@@ -1,9 +1,7 @@
 -- `recalc_speeds`: refused, and then zeros past the counts and the speed points anew.
-use mathlib.Core.Path.{refl, ◌∙◌}
 use Rattle.link.specs.Table.{table_of}
 use Rattle.path.specs.Records.{columns}
 use Rattle.path_speeds.proofs.Recalced.{refused, within, some-points, ready, recalced}
-use borrow.Author.Rules.{rules}
 use Rattle.path_speeds.proofs.recalc_speeds.recalc_speeds.Goals as goal
 
 pub returns-then-answer-ne0 : goal.returns-then-answer-ne0

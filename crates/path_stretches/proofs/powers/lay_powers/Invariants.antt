@@ -1,14 +1,12 @@
 -- `lay_powers`: the two columns hold the limits that were there and the first k of the link.
 use Prim.Native.Nat.{◌-◌, ◌≤◌}
-use native.Mathlib.Omega.{arith}
-use mathlib.Core.Path.{◌≡◌, refl, ap, ◌∙◌}
+use mathlib.Core.Path.{◌≡◌}
 use mathlib.Core.List.{◌++◌, map}
 use lib.ListN.{length}
 use Rattle.link.specs.Lists.{up_from}
-use Rattle.link.specs.Table.{power_at, power_of}
+use Rattle.link.specs.Table.{power_at}
 use Rattle.path.specs.Records.{power_limits}
 use Rattle.path_stretches.specs.Powers.{placed_power, HoldsPowers}
-use Rattle.path_stretches.proofs.Pushed.{push-none, push-next}
 use Rattle.path_stretches.proofs.powers.lay_powers.Given as goal
 
 abbrev pub invariant-loop-k : goal.invariant-loop-k

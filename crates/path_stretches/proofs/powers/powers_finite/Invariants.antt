@@ -1,13 +1,9 @@
 -- `powers_finite`: from limit i on the answer is that from the first on.
 use Prim.Native.Nat.{◌+◌, ◌-◌, ◌≤◌}
-use native.Mathlib.Omega.{arith}
-use mathlib.Core.Path.{◌≡◌, sym, ap, ◌∙◌}
-use borrow.Author.Tests.{not-true, not-false}
+use mathlib.Core.Path.{◌≡◌}
 use Rattle.link.specs.Lists.{every, up_from}
 use Rattle.link.specs.Table.{power_at}
-use Rattle.link.proofs.Loops.{whole-range, every-pass, every-fail, every-end}
 use Rattle.path_stretches.specs.Powers.{power_finite}
-use Rattle.path_stretches.proofs.Pushed.{placed-finite}
 use Rattle.path_stretches.proofs.powers.powers_finite.Given as goal
 
 abbrev pub invariant-loop-i : goal.invariant-loop-i

@@ -1,6 +1,5 @@
 -- `curvature_of`: half a turn is added before the remainder and taken off after it.
 use Rattle.path_stretches.specs.Stretches.{bend_of}
-use borrow.Author.Rules.{rules}
 use Rattle.path_stretches.proofs.stretch.curvature_of.Goals as goal
 
 pub returns : goal.returns

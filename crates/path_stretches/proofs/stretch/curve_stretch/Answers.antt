@@ -1,7 +1,6 @@
 -- `curve_stretch`: the curvature, the resistance, and the two results that are asked.
 use Rattle.link.specs.Table.{heading_of}
 use Rattle.path_stretches.proofs.Curved.{curve-by}
-use borrow.Author.Rules.{rules}
 use Rattle.path_stretches.proofs.stretch.curve_stretch.Goals as goal
 
 pub returns : goal.returns

@@ -4,7 +4,6 @@ use mathlib.Core.Bool.{true, false}
 use lib.Ieee as Ieee
 use Rattle.si.specs.Constants.{one_degree_per100ft}
 use Rattle.path_stretches.proofs.Curved.{work-gentle, work-sharp}
-use borrow.Author.Rules.{rules}
 use Rattle.path_stretches.proofs.stretch.curve_work.Goals as goal
 
 pub returns-then-curvature-one : goal.returns-then-curvature-one

@@ -1,6 +1,5 @@
 -- `flat_stretch`: the coefficient is the literal 0.0.
 use Rattle.ieee.proofs.Same.{zero-literal}
-use borrow.Author.Rules.{rules}
 use Rattle.path_stretches.proofs.stretch.flat_stretch.Goals as goal
 
 pub returns : goal.returns

@@ -2,7 +2,6 @@
 use Rattle.link.specs.Table.{elev_of}
 use Rattle.path_stretches.specs.Stretches.{grade_stretch}
 use Rattle.path_stretches.proofs.Tested.{grade-tests}
-use borrow.Author.Rules.{rules}
 use Rattle.path_stretches.proofs.stretch.grade_stretch.Goals as goal
 
 pub returns : goal.returns

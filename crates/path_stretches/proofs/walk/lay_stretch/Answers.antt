@@ -3,12 +3,10 @@ use Prim.Native.Nat.{◌+◌, ◌-◌, ◌*◌, ◌<◌}
 use native.Mathlib.Omega.{arith}
 use mathlib.Core.Path.{◌≡◌}
 use mathlib.Core.Bool.{cond}
-use mathlib.Core.Logic.{⊎_elim}
 use lib.ListN.{length, get_or, length-set}
 use lib.Ieee.{nan}
 use Rattle.ieee.proofs.Same.{zero-literal}
 use Rattle.path_stretches.proofs.StretchesLaid.{stored}
-use borrow.Author.Rules.{rules}
 use Rattle.path_stretches.proofs.walk.lay_stretch.Goals as goal
 use Rattle.path_stretches.proofs.walk.lay_stretch.Goals.{then-s, else-s}
 

@@ -1,13 +1,12 @@
 -- `lay_stretches`: with the stretches that are left laid on the records so far, they are the records with all of them.
-use Prim.Native.Nat.{◌+◌, ◌-◌, ◌*◌, ◌≤◌, ◌<◌}
+use Prim.Native.Nat.{◌+◌, ◌*◌, ◌≤◌}
 use native.Mathlib.Omega.{arith}
-use mathlib.Core.Path.{◌≡◌, refl, ◌∙◌}
+use mathlib.Core.Path.{refl, ◌∙◌}
 use lib.ListN.{length}
 use Rattle.link.specs.Table.{sample_at}
-use Rattle.lookup.specs.Coeff.{coeffs}
-use Rattle.path_stretches.specs.Stretches.{stretch_step, lay_stretches}
-use Rattle.path_stretches.proofs.StretchSteps.{stretches_at, count_none, count-some, count-range}
-use Rattle.path_stretches.proofs.StretchesLaid.{Going, going_start, going_next, going_end, laid-flat, laid-all}
+use Rattle.path_stretches.specs.Stretches.{stretch_step}
+use Rattle.path_stretches.proofs.StretchSteps.{count_none, count-some, count-range}
+use Rattle.path_stretches.proofs.StretchesLaid.{going_start, going_next, going_end, laid-flat, laid-all}
 use Rattle.path_stretches.proofs.walk.lay_stretches.Goals as goal
 
 pub lay_stretch-requires : goal.lay_stretch-requires

@@ -1,5 +1,4 @@
 -- `stretch_at`: a curve or a grade, by the two samples that are read.
-use borrow.Author.Rules.{rules}
 use Rattle.path_stretches.proofs.walk.stretch_at.Goals as goal
 
 pub returns-then-curves : goal.returns-then-curves

@@ -2,7 +2,6 @@
 use mathlib.Core.Path.{sym}
 use native.Mathlib.Omega.{arith}
 use Rattle.path_stretches.proofs.StretchSteps.{count_none, count-some}
-use borrow.Author.Rules.{rules}
 use Rattle.path_stretches.proofs.walk.stretch_count.Goals as goal
 
 pub returns-then-count-eq0 : goal.returns-then-count-eq0

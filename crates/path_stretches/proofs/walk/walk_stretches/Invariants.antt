@@ -1,10 +1,9 @@
 -- `walk_stretches`: from the stretch that ends at sample i on, after what the code has, it is where all of them end.
 use Prim.Native.Nat.{◌+◌, ◌-◌, ◌≤◌, ◌<◌}
-use native.Mathlib.Omega.{arith}
-use mathlib.Core.Path.{◌≡◌, refl, sym, ap, ◌∙◌}
+use mathlib.Core.Path.{◌≡◌}
 use Rattle.link.specs.Table.{sample_at}
 use Rattle.path_stretches.specs.Stretches.{stretch_step, reached}
-use Rattle.path_stretches.proofs.StretchSteps.{stretches_at, stretches-flat, stretches-all, after, walk_more, walk_none, walk-flat}
+use Rattle.path_stretches.proofs.StretchSteps.{stretches_at, after}
 use Rattle.path_stretches.proofs.walk.walk_stretches.Given as goal
 
 abbrev pub invariant-loop-i : goal.invariant-loop-i

@@ -1,6 +1,5 @@
 -- `answer_of`: case by case.
 use Rattle.resistance.proofs.ListSteps.{answer-as}
-use borrow.Author.Rules.{rules}
 use Rattle.resistance.proofs.listed.answer_of.Goals as goal
 
 pub returns-in-At : goal.returns-in-At

@@ -1,9 +1,7 @@
 -- `list_answer`: question 1 and then question 2.
 use mathlib.Core.Path.{sym, ap, ◌∙◌}
-use borrow.Author.Tests.{not-true, not-false}
 use Rattle.resistance.proofs.ListSteps.{list-else, list-numbers, list-sound}
 use Rattle.path.specs.Answers.{ask}
-use borrow.Author.Rules.{rules}
 use Rattle.resistance.proofs.listed.list_answer.Goals as goal
 
 pub returns-then-not-also : goal.returns-then-not-also

@@ -2,7 +2,6 @@
 use mathlib.Core.Bool.{true}
 use lib.Ieee.{of_bits}
 use Rattle.resistance.proofs.ListSteps.{list_done, coeff-refused, coeff-past, coeff-found}
-use borrow.Author.Rules.{rules}
 use Rattle.resistance.proofs.listed.res_coeff.Goals as goal
 
 pub returns-then-first-ne0 : goal.returns-then-first-ne0

@@ -1,9 +1,7 @@
 -- `res_net`: question by question, and then the value.
 use mathlib.Core.Path.{sym, ◌∙◌}
 use lib.Ieee.{of_bits}
-use borrow.Author.Tests.{not-true, not-false}
 use Rattle.resistance.proofs.ListSteps.{list_done, net-refused, net-past, net-8, net-found}
-use borrow.Author.Rules.{rules}
 use Rattle.resistance.proofs.listed.res_net.Goals as goal
 
 pub returns-then-first-ne0 : goal.returns-then-first-ne0

@@ -1,7 +1,6 @@
 -- `search`: the search of the records, and its answer in numbers.
 use mathlib.Core.Path.{◌∙◌}
 use Rattle.resistance.proofs.ListSteps.{search-of}
-use borrow.Author.Rules.{rules}
 use Rattle.resistance.proofs.listed.search.Goals as goal
 
 pub returns : goal.returns

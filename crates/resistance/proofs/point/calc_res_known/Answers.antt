@@ -1,9 +1,7 @@
 -- `calc_res_known`: the search, then question 8.
 use mathlib.Core.Path.{sym, ◌∙◌}
-use borrow.Author.Tests.{not-true, not-false}
 use lib.Ieee.{of_bits}
 use Rattle.resistance.proofs.PointSteps.{res-refused, res-below, res-8, res-found}
-use borrow.Author.Rules.{rules}
 use Rattle.resistance.proofs.point.calc_res_known.Goals as goal
 
 pub returns-then-answer-ne0 : goal.returns-then-answer-ne0

@@ -1,6 +1,5 @@
 -- `fix_cache`: question 11, and then the index.
 use Rattle.resistance.proofs.PointSteps.{fix-refused, fix-done}
-use borrow.Author.Rules.{rules}
 use Rattle.resistance.proofs.point.fix_cache.Goals as goal
 
 pub returns-then-point-sub : goal.returns-then-point-sub

@@ -1,7 +1,6 @@
 -- `new`: behind questions 1 and 2.
 use Rattle.resistance.proofs.ListSteps.{list_done}
 use Rattle.resistance.proofs.PointSteps.{new-refused, new-passed}
-use borrow.Author.Rules.{rules}
 use Rattle.resistance.proofs.point.new.Goals as goal
 
 pub returns-then-first-ne0 : goal.returns-then-first-ne0

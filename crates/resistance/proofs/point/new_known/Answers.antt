@@ -2,7 +2,6 @@
 use mathlib.Core.Path.{ap}
 use Rattle.resistance.specs.declared.listed.Searched.{Searched}
 use Rattle.resistance.specs.Point.{point_of, new_known}
-use borrow.Author.Rules.{rules}
 use Rattle.resistance.proofs.point.new_known.Goals as goal
 
 pub returns : goal.returns

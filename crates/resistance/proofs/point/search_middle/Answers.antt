@@ -1,10 +1,8 @@
 -- `search_middle`: question 8, and then the search.
 use mathlib.Core.Path.{sym, ◌∙◌}
-use borrow.Author.Tests.{not-true, not-false}
 use lib.Ieee.{of_bits}
 use Rattle.lookup.specs.Coeff.{coeffs}
 use Rattle.resistance.proofs.PointSteps.{middle-refused, middle-searched}
-use borrow.Author.Rules.{rules}
 use Rattle.resistance.proofs.point.search_middle.Goals as goal
 
 pub returns-then-not-is_finite : goal.returns-then-not-is_finite

@@ -2,7 +2,6 @@
 use lib.Ieee.{of_bits}
 use Rattle.resistance.proofs.ListSteps.{list_done}
 use Rattle.resistance.proofs.StrapSteps.{calc-refused, calc-passed}
-use borrow.Author.Rules.{rules}
 use Rattle.resistance.proofs.strap.calc_res.Goals as goal
 
 pub returns-then-first-ne0 : goal.returns-then-first-ne0

@@ -1,7 +1,6 @@
 -- `calc_res_strap`: one record, and two.
 use Rattle.lookup.specs.Coeff.{coeffs}
 use Rattle.resistance.proofs.StrapSteps.{one-record, two_records}
-use borrow.Author.Rules.{rules}
 use Rattle.resistance.proofs.strap.calc_res_strap.Goals as goal
 
 pub returns-then-one : goal.returns-then-one

@@ -1,6 +1,5 @@
 -- `fix_cache`: question 11 of the back and of the front, and then the indices.
 use Rattle.resistance.proofs.StrapSteps.{fix-back, fix-front, fix-done}
-use borrow.Author.Rules.{rules}
 use Rattle.resistance.proofs.strap.fix_cache.Goals as goal
 
 pub returns-then-strap-sub : goal.returns-then-strap-sub

@@ -1,6 +1,5 @@
 -- `moved_by`: by the direction.
 use mathlib.Core.Path.{ap, ◌∙◌}
-use borrow.Author.Rules.{rules}
 use Rattle.resistance.specs.Strap.{turned, moved}
 use Rattle.resistance.proofs.strap.moved_by.Goals as goal
 

@@ -1,7 +1,6 @@
 -- `moved_ends`: one end, and then the other unless it is there already.
 use Rattle.lookup.specs.Coeff.{coeffs}
 use Rattle.resistance.proofs.StrapSteps.{first-refused, first-serves, second-refused, second-found}
-use borrow.Author.Rules.{rules}
 use Rattle.resistance.proofs.strap.moved_ends.Goals as goal
 
 pub returns-then-answer-ne0 : goal.returns-then-answer-ne0

@@ -1,5 +1,4 @@
 -- `moved_to`: the answer is done.
-use borrow.Author.Rules.{rules}
 use Rattle.resistance.proofs.strap.moved_to.Goals as goal
 
 pub returns : goal.returns

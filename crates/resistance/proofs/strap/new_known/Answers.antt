@@ -1,8 +1,6 @@
 -- `new_known`: a single record, question 8, the back, and then the front.
 use mathlib.Core.Path.{sym, ◌∙◌}
-use borrow.Author.Tests.{not-true, not-false}
 use Rattle.resistance.proofs.StrapSteps.{new-single, new-8, new-back, new-front, new-both}
-use borrow.Author.Rules.{rules}
 use Rattle.resistance.proofs.strap.new_known.Goals as goal
 
 pub returns-then-n-le1 : goal.returns-then-n-le1

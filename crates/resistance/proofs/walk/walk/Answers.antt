@@ -1,7 +1,6 @@
 -- `walk`: behind questions 1 and 2.
 use native.Mathlib.Omega.{arith}
 use mathlib.Core.Path.{◌∙◌}
-use borrow.Author.Rules.{rules}
 use lib.Ieee.{of_bits}
 use Rattle.resistance.proofs.WalkSteps.{walk_refused, walk-passed, walk_none}
 use Rattle.resistance.proofs.walk.walk.Goals as goal

@@ -1,6 +1,5 @@
 -- `bytes_at`: the bytes of the span that `field` finds.
 use mathlib.Core.Path.{ap, ◌∙◌}
-use borrow.Author.Rules.{rules}
 use Rattle.route.specs.Text.{bytes_of}
 use Rattle.route.specs.Fields.{field_bytes}
 use Rattle.route.proofs.fields.bytes_at.Goals as goal

@@ -1,9 +1,5 @@
 -- `code_in`: the code from the word at `at` on, whose code is `code`, is the code in the whole list.
-use Prim.Native.Nat.{◌-◌}
-use mathlib.Core.Path.{◌≡◌, refl, ◌∙◌}
-use native.Mathlib.Omega.{arith}
-use borrow.Author.Rules.{rules}
-use Rattle.route.specs.Codes.{code_of, numbered}
+use mathlib.Core.Path.{◌∙◌}
 use Rattle.route.proofs.Codes.{code-found, code-next, code-none}
 use Rattle.route.proofs.fields.code_in.Goals as goal
 

@@ -1,5 +1,4 @@
 -- `count_at`: by what the field is.
-use borrow.Author.Rules.{rules}
 use mathlib.Core.Path.{sym, ap, ◌∙◌}
 use Rattle.route.specs.Fields.{whole_or_zero}
 use Rattle.route.proofs.fields.count_at.Goals as goal

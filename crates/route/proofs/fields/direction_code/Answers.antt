@@ -1,5 +1,4 @@
 -- `direction_code`: the list of words, numbered, is the table.
-use borrow.Author.Rules.{rules}
 use Rattle.route.specs.Text.{is_blank, in_field}
 use Rattle.route.specs.Codes.{numbered}
 use Rattle.route.proofs.fields.direction_code.Goals as goal

@@ -1,5 +1,4 @@
 -- `float_at`: by what the field is.
-use borrow.Author.Rules.{rules}
 use mathlib.Core.Path.{sym, ap, ◌∙◌}
 use lib.Ieee.{of_bits}
 use Rattle.route.specs.Fields.{or_zero}

@@ -1,10 +1,5 @@
 -- `is_word`: the words are the same where they are so from i on.
-use Prim.Native.Nat.{◌-◌}
-use mathlib.Core.Path.{◌≡◌, refl, ◌∙◌}
-use native.Mathlib.Omega.{arith}
-use borrow.Author.Rules.{rules}
-use lib.ListN.{length, drop}
-use Rattle.route.specs.Fields.{same}
+use mathlib.Core.Path.{◌∙◌}
 use Rattle.route.proofs.Words.{same_length, same_next, same_stop, same_end}
 use Rattle.route.proofs.fields.is_word.Goals as goal
 

@@ -1,11 +1,8 @@
 -- `is_word`: the words are the same where they are so from i on.
 use Prim.Native.Nat.{◌-◌}
-use mathlib.Core.Path.{◌≡◌, refl, ◌∙◌}
-use native.Mathlib.Omega.{arith}
-use borrow.Author.Rules.{rules}
+use mathlib.Core.Path.{◌≡◌}
 use lib.ListN.{length, drop}
 use Rattle.route.specs.Fields.{same}
-use Rattle.route.proofs.Words.{same_length, same_next, same_stop, same_end}
 use Rattle.route.proofs.fields.is_word.Given as goal
 
 abbrev pub invariant-loop-i : goal.invariant-loop-i

@@ -1,6 +1,5 @@
 -- `number_at`: the number that the bytes are.
 use mathlib.Core.Path.{ap, ◌∙◌}
-use borrow.Author.Rules.{rules}
 use Rattle.decimal.specs.Number.{read_number}
 use Rattle.route.specs.Fields.{number_at}
 use Rattle.route.proofs.fields.number_at.Goals as goal

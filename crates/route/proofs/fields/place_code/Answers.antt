@@ -4,7 +4,6 @@ use native.Mathlib.Omega.{arith}
 use mathlib.Core.Path.{ap, sym, ◌∙◌}
 use mathlib.Core.List.{map}
 use Prim.Native.Nat.{suc}
-use borrow.Author.Rules.{rules}
 use Rattle.route.specs.Codes.{types, one_more, ◌is◌}
 use Rattle.route.proofs.Codes.{first-is, first-not, code-more, code-up-to}
 use Rattle.route.proofs.fields.place_code.Goals as goal

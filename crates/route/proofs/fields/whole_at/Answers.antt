@@ -1,6 +1,5 @@
 -- `whole_at`: the whole number that the bytes are.
 use mathlib.Core.Path.{ap, ◌∙◌}
-use borrow.Author.Rules.{rules}
 use Rattle.decimal.specs.Number.{read_whole}
 use Rattle.route.specs.Fields.{whole_at}
 use Rattle.route.proofs.fields.whole_at.Goals as goal

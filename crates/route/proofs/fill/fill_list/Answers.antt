@@ -1,11 +1,9 @@
 -- `fill_list`: one number a turn; the column so far with what is still to come is the column filled.
-use borrow.Author.Rules.{rules}
-use Prim.Native.Nat.{◌+◌, ◌-◌, ◌≤◌}
+use Prim.Native.Nat.{◌+◌}
 use native.Mathlib.Omega.{arith}
-use lib.ListN.{length, length-set}
-use mathlib.Core.Path.{◌≡◌, refl, sym, ◌∙◌}
-use Rattle.route.specs.Filled.{listed, list_length}
-use Rattle.route.proofs.Filled.{field-missing, field-there, whole, count, whole-end, count-end, whole-stop, count-stop, whole-next, count_next}
+use lib.ListN.{length-set}
+use mathlib.Core.Path.{refl, sym, ◌∙◌}
+use Rattle.route.proofs.Filled.{field-missing, field-there, whole-end, count-end, whole-stop, count-stop, whole-next, count_next}
 use Rattle.route.proofs.fill.fill_list.Goals as goal
 
 pub loop-i-init : goal.loop-i-init

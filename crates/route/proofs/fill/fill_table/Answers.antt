@@ -1,8 +1,5 @@
 -- `fill_table`: one line a turn. The columns keep their lengths.
-use Prim.Native.Nat.{◌-◌}
-use mathlib.Core.Path.{◌≡◌, refl, ◌∙◌}
-use lib.ListN.{length}
-use borrow.Author.Rules.{rules}
+use mathlib.Core.Path.{refl, ◌∙◌}
 use native.Mathlib.Omega.{arith}
 use Rattle.route.proofs.fill.fill_table.Goals as goal
 

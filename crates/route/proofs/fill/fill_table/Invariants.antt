@@ -1,9 +1,7 @@
 -- `fill_table`: one line a turn. The columns keep their lengths.
 use Prim.Native.Nat.{◌-◌}
-use mathlib.Core.Path.{◌≡◌, refl, ◌∙◌}
+use mathlib.Core.Path.{◌≡◌}
 use lib.ListN.{length}
-use borrow.Author.Rules.{rules}
-use native.Mathlib.Omega.{arith}
 use Rattle.route.proofs.fill.fill_table.Given as goal
 
 abbrev pub invariant-loop-at : goal.invariant-loop-at

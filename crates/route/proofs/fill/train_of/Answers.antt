@@ -1,5 +1,4 @@
 -- `train_of`: field by field.
-use borrow.Author.Rules.{rules}
 use Rattle.route.specs.Filled.{train_of}
 use Rattle.route.proofs.fill.train_of.Goals as goal
 

@@ -1,6 +1,5 @@
 -- `call_misfit`: the kinds one by one.
 use native.Mathlib.Omega.{arith}
-use borrow.Author.Rules.{rules}
 use borrow.Author.Tests.{ne_eqb}
 use Rattle.route.specs.Forms.{call_misfit}
 use Rattle.route.proofs.judge.call_misfit.Goals as goal

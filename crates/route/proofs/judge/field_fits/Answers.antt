@@ -1,6 +1,5 @@
 -- `field_fits`: the letters one by one.
 use native.Mathlib.Omega.{arith}
-use borrow.Author.Rules.{rules}
 use borrow.Author.Tests.{ne_eqb}
 use Rattle.route.specs.Forms.{field_fits}
 use Rattle.route.proofs.judge.field_fits.Goals as goal

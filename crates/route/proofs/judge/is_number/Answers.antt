@@ -1,5 +1,4 @@
 -- `is_number`: by what the field is.
-use borrow.Author.Rules.{rules}
 use mathlib.Core.Path.{sym, ap, ◌∙◌}
 use Rattle.route.specs.Forms.{is_number}
 use Rattle.route.proofs.judge.is_number.Goals as goal

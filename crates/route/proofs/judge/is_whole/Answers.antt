@@ -1,5 +1,4 @@
 -- `is_whole`: by what the field is.
-use borrow.Author.Rules.{rules}
 use mathlib.Core.Path.{sym, ap, ◌∙◌}
 use Rattle.route.specs.Forms.{is_whole}
 use Rattle.route.proofs.judge.is_whole.Goals as goal

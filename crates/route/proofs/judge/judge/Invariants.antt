@@ -1,5 +1,4 @@
 -- `judge`: one line a turn.
-use borrow.Author.Rules.{rules}
 use Prim.Native.Nat.{◌-◌}
 use lib.ListN.{length}
 use Rattle.route.proofs.judge.judge.Given as goal

@@ -1,12 +1,8 @@
 -- `misfit`: the first misfit from field i + 1 on is the first of all.
-use borrow.Author.Rules.{rules}
 use Prim.Native.Nat.{◌+◌, ◌-◌, ◌≤◌}
-use native.Mathlib.Omega.{arith}
-use mathlib.Core.Path.{◌≡◌, refl, ◌∙◌}
+use mathlib.Core.Path.{◌≡◌}
 use lib.ListN.{length, drop}
 use Rattle.route.specs.Forms.{misfit_from}
-use Rattle.route.proofs.Filled.{field-missing, field-there}
-use Rattle.route.proofs.Forms.{misfit-next, misfit-here, misfit-none, misfit-more}
 use Rattle.route.proofs.judge.misfit.Given as goal
 
 abbrev pub invariant-loop-i : goal.invariant-loop-i

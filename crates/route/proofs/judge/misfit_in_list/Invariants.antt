@@ -1,11 +1,7 @@
 -- `misfit_in_list`: the first misfit from field i + 1 on is the first of all.
-use borrow.Author.Rules.{rules}
 use Prim.Native.Nat.{◌+◌, ◌-◌, ◌≤◌}
-use native.Mathlib.Omega.{arith}
-use mathlib.Core.Path.{◌≡◌, refl, ◌∙◌}
+use mathlib.Core.Path.{◌≡◌}
 use Rattle.route.specs.Forms.{list_misfit_from}
-use Rattle.route.proofs.Filled.{field-missing, field-there}
-use Rattle.route.proofs.Forms.{list-stop, list-next, list-here, list-none, list-more}
 use Rattle.route.proofs.judge.misfit_in_list.Given as goal
 
 abbrev pub invariant-loop-i : goal.invariant-loop-i

@@ -1,6 +1,5 @@
 -- `kind_of`: the list of words, numbered, is the table of keywords.
 use lib.ListN.{length}
-use borrow.Author.Rules.{rules}
 use borrow.Author.Tests.{eq-eqb, ne_eqb}
 use Rattle.route.specs.Text.{is_blank, in_field}
 use Rattle.route.specs.Codes.{numbered, kind_of}

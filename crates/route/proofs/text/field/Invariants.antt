@@ -1,10 +1,7 @@
 -- `field`: s is field i.
 use Prim.Native.Nat.{◌-◌, ◌≤◌}
 use mathlib.Core.Path.{◌≡◌}
-use native.Mathlib.Omega.{arith}
-use borrow.Author.Rules.{rules}
 use Rattle.route.specs.Text.{field}
-use Rattle.route.proofs.Places.{field_next}
 use Rattle.route.proofs.text.field.Given as goal
 
 abbrev pub invariant-loop-i : goal.invariant-loop-i

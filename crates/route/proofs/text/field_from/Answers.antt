@@ -1,5 +1,4 @@
 -- `field_from`: both ends by definition.
-use borrow.Author.Rules.{rules}
 use Rattle.route.specs.Text.{field_from}
 use Rattle.route.proofs.text.field_from.Goals as goal
 

@@ -1,10 +1,6 @@
 -- `next_line`: the line end at or behind i is the one at or behind `at`.
-use Prim.Native.Nat.{◌-◌, ◌≤◌}
 use native.Mathlib.Omega.{arith}
-use borrow.Author.Rules.{rules}
-use lib.ListN.{length}
-use mathlib.Core.Path.{◌≡◌, refl, ◌∙◌}
-use Rattle.route.specs.Text.{past, in_line}
+use mathlib.Core.Path.{refl, ◌∙◌}
 use Rattle.route.proofs.Places.{line_on, line-end, line-last}
 use Rattle.route.proofs.text.next_line.Goals as goal
 

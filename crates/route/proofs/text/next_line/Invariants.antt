@@ -1,11 +1,8 @@
 -- `next_line`: the line end at or behind i is the one at or behind `at`.
 use Prim.Native.Nat.{◌-◌, ◌≤◌}
-use native.Mathlib.Omega.{arith}
-use borrow.Author.Rules.{rules}
 use lib.ListN.{length}
-use mathlib.Core.Path.{◌≡◌, refl, ◌∙◌}
+use mathlib.Core.Path.{◌≡◌}
 use Rattle.route.specs.Text.{past, in_line}
-use Rattle.route.proofs.Places.{line_on, line-end, line-last}
 use Rattle.route.proofs.text.next_line.Given as goal
 
 abbrev pub invariant-loop-i : goal.invariant-loop-i

@@ -1,5 +1,4 @@
 -- `part`: test by test.
-use borrow.Author.Rules.{rules}
 use Rattle.route.proofs.Places.{bytes-outside, bytes-none, bytes_inside}
 use Rattle.route.proofs.text.part.Goals as goal
 

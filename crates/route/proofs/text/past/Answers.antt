@@ -1,11 +1,5 @@
 -- `past`: the answer from i on is the answer from `at` on.
-use Prim.Native.Nat.{◌-◌}
-use mathlib.Core.Path.{◌≡◌, refl, ◌∙◌}
-use mathlib.Core.Bool.{cond}
-use native.Mathlib.Omega.{arith}
-use borrow.Author.Rules.{rules}
-use lib.ListN.{length}
-use Rattle.route.specs.Text.{past, is_blank, in_field}
+use mathlib.Core.Path.{◌∙◌}
 use Rattle.route.proofs.Places.{past_next, past_stop, past_end}
 use mathlib.Core.Path.{ap}
 use mathlib.Core.Bool.{not}

@@ -1,12 +1,9 @@
 -- `past`: the answer from i on is the answer from `at` on.
 use Prim.Native.Nat.{◌-◌}
-use mathlib.Core.Path.{◌≡◌, refl, ◌∙◌}
+use mathlib.Core.Path.{◌≡◌}
 use mathlib.Core.Bool.{cond}
-use native.Mathlib.Omega.{arith}
-use borrow.Author.Rules.{rules}
 use lib.ListN.{length}
 use Rattle.route.specs.Text.{past, is_blank, in_field}
-use Rattle.route.proofs.Places.{past_next, past_stop, past_end}
 use Rattle.route.proofs.text.past.Given as goal
 
 abbrev pub invariant-loop-i : goal.invariant-loop-i

@@ -1,5 +1,4 @@
 -- `list_powers`: one limit a turn.
-use borrow.Author.Rules.{rules}
 use Prim.Native.Nat.{◌-◌}
 use Rattle.route_reads.proofs.reads.list_powers.Given as goal
 

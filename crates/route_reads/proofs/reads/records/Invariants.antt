@@ -1,5 +1,4 @@
 -- `records`: one record a turn.
-use borrow.Author.Rules.{rules}
 use Prim.Native.Nat.{◌-◌}
 use Rattle.route_reads.proofs.reads.records.Given as goal
 

@@ -8,7 +8,6 @@ use Rattle.speed.specs.Column.{points}
 use Rattle.speed.specs.Clear.{clear_points}
 use Rattle.speed.proofs.PointColumn.{length-points, next-moved, leaves_at}
 use Rattle.speed.proofs.Cleared.{kept-below, moved-first}
-use borrow.Author.Rules.{rules}
 use Rattle.speed.proofs.clear.clear_points.Goals as goal
 
 pub overflow_mul-from : goal.overflow_mul-from

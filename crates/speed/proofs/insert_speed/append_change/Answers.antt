@@ -12,7 +12,6 @@ use Rattle.speed.specs.Column.{points}
 use Rattle.speed.specs.Insert.{append_change}
 use Rattle.speed.proofs.PointColumn.{length-points, next-inserted, next-set, leaves_at}
 use Rattle.speed.proofs.InsertSteps.{length_inserted, insert-end, change-after, change-moved, change-at}
-use borrow.Author.Rules.{rules}
 use Rattle.speed.proofs.insert_speed.append_change.Goals as goal
 
 pub insert_point-requires : goal.insert_point-requires

@@ -9,7 +9,6 @@ use Rattle.speed.specs.Column.{points}
 use Rattle.speed.specs.Insert.{append_change, append_limit}
 use Rattle.speed.proofs.PointColumn.{length-points, leaves_at}
 use Rattle.speed.proofs.InsertSteps.{append-changed, append-same}
-use borrow.Author.Rules.{rules}
 use Rattle.speed.proofs.insert_speed.append_limit.Goals as goal
 
 pub returns-then-u-w : goal.returns-then-u-w

@@ -10,7 +10,6 @@ use Rattle.speed.specs.Column.{points}
 use Rattle.speed.specs.Insert.{drop_repeat}
 use Rattle.speed.proofs.PointColumn.{length-points, leaves_at}
 use Rattle.speed.proofs.InsertSteps.{length_removed, repeat-dropped, repeat-kept}
-use borrow.Author.Rules.{rules}
 use Rattle.speed.proofs.insert_speed.drop_repeat.Goals as goal
 
 pub returns-then-repeats_before : goal.returns-then-repeats_before

@@ -5,7 +5,6 @@ use lib.Ieee.{Float}
 use Rattle.ieee.specs.Speed.{min_speed}
 use Rattle.speed.specs.Column.{points}
 use Rattle.speed.proofs.InsertSteps.{ends-yes, ends-no}
-use borrow.Author.Rules.{rules}
 use Rattle.speed.proofs.insert_speed.ends_after.Goals as goal
 
 pub returns-then-offset_at-e : goal.returns-then-offset_at-e

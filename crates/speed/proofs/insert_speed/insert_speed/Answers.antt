@@ -6,7 +6,6 @@ use Rattle.speed.specs.Column.{points}
 use Rattle.speed.specs.Insert.{append_limit, lay_limit, insert_speed}
 use Rattle.speed.proofs.PointColumn.{length-points, leaves_at}
 use Rattle.speed.proofs.InsertSteps.{insert-append, insert-lay}
-use borrow.Author.Rules.{rules}
 use Rattle.speed.proofs.insert_speed.insert_speed.Goals as goal
 
 pub returns-then-offset_at-l : goal.returns-then-offset_at-l

@@ -15,7 +15,6 @@ use Rattle.speed.specs.Insert.{splits, lay_between}
 use Rattle.speed.proofs.PointColumn.{length-points, leaves_at}
 use Rattle.speed.proofs.InsertSteps.{length_inserted, between-laid, between-kept}
 use borrow.Author.Tests.{not-true, not-false}
-use borrow.Author.Rules.{rules}
 use mathlib.Core.Path.{ap}
 use mathlib.Core.Bool.{not}
 use Rattle.speed.proofs.insert_speed.lay_between.Goals as goal

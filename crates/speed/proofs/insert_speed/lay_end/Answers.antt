@@ -9,7 +9,6 @@ use Rattle.speed.specs.Column.{points}
 use Rattle.speed.specs.Insert.{merge, lay_end}
 use Rattle.speed.proofs.PointColumn.{next-inserted, leaves_at}
 use Rattle.speed.proofs.InsertSteps.{end-laid, end_kept}
-use borrow.Author.Rules.{rules}
 use Rattle.speed.proofs.insert_speed.lay_end.Goals as goal
 
 pub merge_range-requires : goal.merge_range-requires

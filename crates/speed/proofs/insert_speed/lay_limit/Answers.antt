@@ -14,7 +14,6 @@ use Rattle.speed.specs.Column.{points}
 use Rattle.speed.specs.Insert.{first_from, last_from, lay_between, lay_start, lay_from, lay_limit}
 use Rattle.speed.proofs.PointColumn.{length-points, leaves_at}
 use Rattle.speed.proofs.InsertSteps.{first_below, last-le, between-some, from-between, from_start, limit-from}
-use borrow.Author.Rules.{rules}
 use Rattle.speed.proofs.insert_speed.lay_limit.Goals as goal
 
 -- the last point is not at or before s: one at or after s is found

@@ -11,7 +11,6 @@ use Rattle.speed.specs.Column.{points}
 use Rattle.speed.specs.Insert.{lay_end, lay_start}
 use Rattle.speed.proofs.PointColumn.{next-inserted, leaves_at}
 use Rattle.speed.proofs.InsertSteps.{start-laid, start-same, start-kept}
-use borrow.Author.Rules.{rules}
 use Rattle.speed.proofs.insert_speed.lay_start.Goals as goal
 
 pub speed_at-u-requires : goal.speed_at-u-requires

@@ -5,7 +5,6 @@ use lib.Ieee as Ieee
 use lib.Ieee.{Float}
 use Rattle.speed.specs.Column.{points}
 use Rattle.speed.proofs.InsertSteps.{between-yes, between-no}
-use borrow.Author.Rules.{rules}
 use Rattle.speed.proofs.insert_speed.lies_between.Goals as goal
 
 pub returns-then-i-gt0 : goal.returns-then-i-gt0

@@ -1,15 +1,9 @@
 -- `merge_range`: at each turn what is left to merge gives what was to be merged at first.
-use mathlib.Core.Path.{◌≡◌, refl, sym, ap, ◌∙◌}
-use Prim.Native.Nat.{◌+◌, ◌-◌, ◌<◌, ◌≤◌}
-use native.Mathlib.Omega.{arith}
+use mathlib.Core.Path.{◌≡◌}
+use Prim.Native.Nat.{◌-◌, ◌<◌, ◌≤◌}
 use lib.ListN.{length}
-use lib.Ieee.{Float}
-use Rattle.ieee.specs.Speed.{min_speed}
-use Rattle.speed.specs.Points.{point, offset_at, speed_at, set_speed, repeats}
 use Rattle.speed.specs.Column.{points, Holds}
-use Rattle.speed.specs.Insert.{merge, drop_repeat}
-use Rattle.speed.proofs.PointColumn.{next-removed, next-set, leaves_at}
-use Rattle.speed.proofs.InsertSteps.{merge-done, merge-removed, merge-stored}
+use Rattle.speed.specs.Insert.{merge}
 use Rattle.speed.proofs.insert_speed.merge_range.Given as goal
 
 abbrev pub invariant-loop-a : goal.invariant-loop-a

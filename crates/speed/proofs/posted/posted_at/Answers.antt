@@ -1,17 +1,14 @@
 -- `posted_at`: the last point at or before x is lo or comes after it, and comes before hi.
-use Prim.Native.Nat.{suc, ◌+◌, ◌-◌, ◌/◌, ◌≤◌, ◌<◌}
+use Prim.Native.Nat.{suc, ◌+◌, ◌-◌, ◌/◌}
 use native.Mathlib.Omega.{arith}
 use mathlib.Core.Path.{◌≡◌, sym, ap, ◌∙◌}
-use mathlib.Core.Bool.{true, false}
-use lib.ListN.{drop}
 use lib.Ieee as Ieee
 use lib.Ieee.{Float}
 use Rattle.ieee.specs.Number.{+0}
 use Rattle.ieee.proofs.Order.{of-true}
-use Rattle.speed.specs.Points.{offset_at}
 use Rattle.speed.specs.Column.{points}
 use Rattle.speed.proofs.PointColumn.{length-points}
-use Rattle.speed.proofs.Reached.{reaches, posted-last, reaches-at, reaches_end}
+use Rattle.speed.proofs.Reached.{posted-last, reaches-at, reaches_end}
 use Rattle.speed.proofs.posted.posted_at.Goals as goal
 
 pub loop-hi-init : goal.loop-hi-init

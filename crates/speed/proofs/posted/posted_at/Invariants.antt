@@ -1,17 +1,13 @@
 -- `posted_at`: the last point at or before x is lo or comes after it, and comes before hi.
-use Prim.Native.Nat.{suc, ◌+◌, ◌-◌, ◌/◌, ◌≤◌, ◌<◌}
-use native.Mathlib.Omega.{arith}
-use mathlib.Core.Path.{◌≡◌, sym, ap, ◌∙◌}
+use Prim.Native.Nat.{◌-◌, ◌≤◌, ◌<◌}
+use mathlib.Core.Path.{◌≡◌}
 use mathlib.Core.Bool.{true, false}
 use lib.ListN.{drop}
 use lib.Ieee as Ieee
 use lib.Ieee.{Float}
-use Rattle.ieee.specs.Number.{+0}
-use Rattle.ieee.proofs.Order.{of-true}
 use Rattle.speed.specs.Points.{offset_at}
 use Rattle.speed.specs.Column.{points}
-use Rattle.speed.proofs.PointColumn.{length-points}
-use Rattle.speed.proofs.Reached.{reaches, posted-last, reaches-at, reaches_end}
+use Rattle.speed.proofs.Reached.{reaches}
 use Rattle.speed.proofs.posted.posted_at.Given as goal
 
 abbrev pub invariant-loop-hi : goal.invariant-loop-hi

@@ -5,7 +5,6 @@ use lib.Ieee.{neg}
 use Rattle.ieee.specs.Number.{sign}
 use Rattle.ieee.specs.Speed.{smaller}
 use Rattle.ieee.proofs.Speed.{min_speed-set, min_speed-clear}
-use borrow.Author.Rules.{rules}
 use Rattle.speed.proofs.speed_limit.min_speed.Goals as goal
 
 pub returns-then-is_negative : goal.returns-then-is_negative

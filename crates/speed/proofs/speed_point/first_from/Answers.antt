@@ -1,8 +1,6 @@
 -- `first_from`: at each turn the first such point is i after the first of those from i on.
-use Prim.Native.Nat.{◌+◌, ◌-◌, ◌≤◌}
-use mathlib.Core.Path.{◌≡◌, sym, ap, ◌∙◌}
+use mathlib.Core.Path.{sym, ap, ◌∙◌}
 use native.Mathlib.Nat.{zero-add}
-use lib.ListN.{drop}
 use lib.Ieee as Ieee
 use lib.Ieee.{Float}
 use Rattle.speed.specs.Insert.{first_from}

@@ -1,15 +1,9 @@
 -- `first_from`: at each turn the first such point is i after the first of those from i on.
 use Prim.Native.Nat.{◌+◌, ◌-◌, ◌≤◌}
-use mathlib.Core.Path.{◌≡◌, sym, ap, ◌∙◌}
-use native.Mathlib.Nat.{zero-add}
+use mathlib.Core.Path.{◌≡◌}
 use lib.ListN.{drop}
-use lib.Ieee as Ieee
-use lib.Ieee.{Float}
 use Rattle.speed.specs.Insert.{first_from}
-use native.Mathlib.Omega.{arith}
 use Rattle.speed.specs.Column.{points}
-use Rattle.speed.proofs.PointColumn.{length-points}
-use Rattle.speed.proofs.InsertSteps.{first-pass, first-stop, first-end}
 use Rattle.speed.proofs.speed_point.first_from.Given as goal
 
 abbrev pub invariant-loop-i : goal.invariant-loop-i

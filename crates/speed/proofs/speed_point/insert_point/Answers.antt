@@ -1,7 +1,6 @@
 -- `insert_point`: a gap of two entries, and a point in it.
 use Rattle.column.specs.declared.Two.{Two}
 use Rattle.speed.proofs.PointColumn.{inserted}
-use borrow.Author.Rules.{rules}
 use Rattle.speed.proofs.speed_point.insert_point.Goals as goal
 
 pub returns : goal.returns

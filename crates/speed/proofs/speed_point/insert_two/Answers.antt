@@ -1,7 +1,6 @@
 -- `insert_two`: a gap of four entries, and two points in it.
 use Rattle.column.specs.declared.Two.{Two}
 use Rattle.speed.proofs.PointColumn.{two-inserted}
-use borrow.Author.Rules.{rules}
 use Rattle.speed.proofs.speed_point.insert_two.Goals as goal
 
 pub returns : goal.returns

@@ -1,8 +1,6 @@
 -- `last_from`: at each turn the last such point is the last of those up to j.
-use Prim.Native.Nat.{◌-◌, ◌<◌}
-use mathlib.Core.Path.{◌≡◌, refl, sym, ap, ◌∙◌}
+use mathlib.Core.Path.{refl, sym, ap, ◌∙◌}
 use lib.Ieee as Ieee
-use Rattle.speed.specs.Insert.{last_from}
 use native.Mathlib.Omega.{arith}
 use Rattle.speed.specs.Column.{points}
 use Rattle.speed.proofs.InsertSteps.{last-pass, last-stop, last_none}

@@ -1,11 +1,8 @@
 -- `last_from`: at each turn the last such point is the last of those up to j.
 use Prim.Native.Nat.{◌-◌, ◌<◌}
-use mathlib.Core.Path.{◌≡◌, refl, sym, ap, ◌∙◌}
-use lib.Ieee as Ieee
+use mathlib.Core.Path.{◌≡◌}
 use Rattle.speed.specs.Insert.{last_from}
-use native.Mathlib.Omega.{arith}
 use Rattle.speed.specs.Column.{points}
-use Rattle.speed.proofs.InsertSteps.{last-pass, last-stop, last_none}
 use Rattle.speed.proofs.speed_point.last_from.Given as goal
 
 abbrev pub invariant-loop-j : goal.invariant-loop-j

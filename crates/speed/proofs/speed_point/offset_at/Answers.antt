@@ -1,6 +1,5 @@
 -- `offset_at`: the first entry of a point.
 use Rattle.speed.proofs.PointColumn.{read-offset}
-use borrow.Author.Rules.{rules}
 use Rattle.speed.proofs.speed_point.offset_at.Goals as goal
 
 pub returns : goal.returns

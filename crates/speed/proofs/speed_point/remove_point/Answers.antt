@@ -1,7 +1,6 @@
 -- `remove_point`: the two entries of a point go out.
 use native.Mathlib.Omega.{arith}
 use Rattle.speed.proofs.PointColumn.{fits-points, removed}
-use borrow.Author.Rules.{rules}
 use Rattle.speed.proofs.speed_point.remove_point.Goals as goal
 
 pub overflow_mul-i : goal.overflow_mul-i

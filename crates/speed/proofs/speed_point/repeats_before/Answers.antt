@@ -4,7 +4,6 @@ use lib.Ieee as Ieee
 use lib.Ieee.{Float}
 use Rattle.speed.specs.Column.{points}
 use Rattle.speed.proofs.InsertSteps.{repeats-none, repeats-some}
-use borrow.Author.Rules.{rules}
 use Rattle.speed.proofs.speed_point.repeats_before.Goals as goal
 
 pub returns-then-i-eq0 : goal.returns-then-i-eq0

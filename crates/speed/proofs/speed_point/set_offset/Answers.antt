@@ -1,7 +1,6 @@
 -- `set_offset`: one store, to the first entry of a point.
 use native.Mathlib.Omega.{arith}
 use Rattle.speed.proofs.PointColumn.{fits-points, offset-stored}
-use borrow.Author.Rules.{rules}
 use Rattle.speed.proofs.speed_point.set_offset.Goals as goal
 
 pub overflow_mul-col : goal.overflow_mul-col

@@ -1,7 +1,6 @@
 -- `set_speed`: one store, to the second entry of a point.
 use native.Mathlib.Omega.{arith}
 use Rattle.speed.proofs.PointColumn.{fits-points, speed-stored}
-use borrow.Author.Rules.{rules}
 use Rattle.speed.proofs.speed_point.set_speed.Goals as goal
 
 pub overflow_mul-col : goal.overflow_mul-col

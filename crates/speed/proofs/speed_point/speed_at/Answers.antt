@@ -1,6 +1,5 @@
 -- `speed_at`: the second entry of a point.
 use Rattle.speed.proofs.PointColumn.{read-speed}
-use borrow.Author.Rules.{rules}
 use Rattle.speed.proofs.speed_point.speed_at.Goals as goal
 
 pub returns : goal.returns

@@ -1,6 +1,4 @@
 -- `locate`: the questions in their order.
-use borrow.Author.Rules.{rules}
-use borrow.Author.Tests.{not-true, not-false}
 use Rattle.path.specs.Records.{columns}
 use Rattle.train.proofs.Fields.{locate-first, links-there, locate-10, locate-8}
 use Rattle.train.proofs.locate.locate.Goals as goal

@@ -1,6 +1,4 @@
 -- `located_among`: the front's link point, question 8, and the back's link point.
-use borrow.Author.Rules.{rules}
-use borrow.Author.Tests.{not-true, not-false}
 use Rattle.path.specs.Records.{link_points}
 use Rattle.train.proofs.Fields.{among-refused, among-done}
 use Rattle.train.proofs.locate.located_among.Goals as goal

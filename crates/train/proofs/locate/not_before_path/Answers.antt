@@ -1,6 +1,5 @@
 -- `not_before_path`: the first link point.
 use Rattle.train.proofs.Behind.{not-before}
-use borrow.Author.Rules.{rules}
 use Rattle.train.proofs.locate.not_before_path.Goals as goal
 
 pub returns : goal.returns

@@ -1,7 +1,5 @@
 -- `point_behind`: from i back the search ends where it ends from the last link point back.
-use native.Mathlib.Omega.{arith}
-use borrow.Author.Tests.{not-true, not-false}
-use Rattle.train.proofs.Behind.{Passed, passed_none, passed-all, passed-more, passed-stop}
+use Rattle.train.proofs.Behind.{Passed}
 use Rattle.train.proofs.locate.point_behind.Given as goal
 
 abbrev pub invariant-loop-i : goal.invariant-loop-i

@@ -1,6 +1,5 @@
 -- `state_finite`: the five numbers one by one, and the test.
 use mathlib.Core.Bool.{and-true}
-use borrow.Author.Rules.{rules}
 use lib.Ieee.Scale.{finite}
 use Rattle.ieee.specs.Number.{all_finite}
 use Rattle.ieee.proofs.Same.{zero-literal}

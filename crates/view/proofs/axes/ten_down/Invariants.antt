@@ -1,5 +1,4 @@
 -- `ten_down`: one power a turn.
-use Rattle.std.proofs.Common.{arith, rules}
 use Rattle.view.proofs.axes.ten_down.Given as goal
 
 abbrev pub invariant-loop-power : goal.invariant-loop-power

@@ -1,5 +1,5 @@
 -- `ten_up`: one power a turn.
-use Rattle.std.proofs.Common.{◌-◌, arith, rules}
+use Rattle.std.proofs.Common.{◌-◌}
 use Rattle.view.proofs.axes.ten_up.Given as goal
 
 abbrev pub invariant-loop-power : goal.invariant-loop-power

@@ -1,5 +1,4 @@
 -- `ticks`: one tick a turn, at most 20.
-use Rattle.std.proofs.Common.{arith, rules}
 use Rattle.view.proofs.axes.ticks.Given as goal
 
 abbrev pub invariant-loop-left : goal.invariant-loop-left

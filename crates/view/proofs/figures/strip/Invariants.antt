@@ -1,5 +1,5 @@
 -- `strip`: one zero a turn, the power rising to 1000 at most.
-use Rattle.std.proofs.Common.{◌-◌, arith, rules}
+use Rattle.std.proofs.Common.{◌-◌}
 use Rattle.view.proofs.figures.strip.Given as goal
 
 abbrev pub invariant-loop-p : goal.invariant-loop-p

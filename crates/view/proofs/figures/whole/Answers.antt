@@ -1,5 +1,5 @@
 -- `whole`: a size below a thousand million million is above -1 and below 2 ^ 64.
-use Rattle.std.proofs.Common.{◌≡◌, true, false, T, pos, subst, arith, rules}
+use Rattle.std.proofs.Common.{◌≡◌, true, false, T, pos, subst}
 use lib.Ieee.{Float, fin, lt, of_bits, binary64}
 use Rattle.ieee.specs.Number.{real, size, zero_of}
 use Rattle.ieee.proofs.Order.{of-true, lt-le-trans, lt_trans, lt-real-l}

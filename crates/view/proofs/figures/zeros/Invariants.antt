@@ -1,5 +1,5 @@
 -- `zeros`: one zero a turn.
-use Rattle.std.proofs.Common.{◌-◌, arith, rules}
+use Rattle.std.proofs.Common.{◌-◌}
 use Rattle.view.proofs.figures.zeros.Given as goal
 
 abbrev pub invariant-loop-i : goal.invariant-loop-i

@@ -1,5 +1,5 @@
 -- `add_limit`: the records of a limit, placed with its tail and without.
-use Rattle.std.proofs.Common.{[], ◌∷◌, ap, ◌∙◌, ap₂, rules}
+use Rattle.std.proofs.Common.{[], ◌∷◌, ap, ◌∙◌, ap₂}
 use lib.Ieee as Ieee
 use Rattle.view.specs.History.{Laid, with_more, laid_as}
 use Rattle.view.proofs.history.add_limit.Goals as goal

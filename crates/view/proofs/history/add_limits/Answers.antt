@@ -1,10 +1,10 @@
 -- `add_limits`: what is left to add from limit i on gives what was to be added at first.
-use Rattle.std.proofs.Common.{◌+◌, ◌-◌, min, [], ◌∷◌, ap, ◌∙◌, ⊎_elim, arith, rules}
+use Rattle.std.proofs.Common.{◌+◌, min, [], ◌∷◌, ap, ◌∙◌}
 use Rattle.link.specs.Train.{top_speed, length_of}
 use Rattle.link.specs.Table.{limit_of}
 use Rattle.path_speeds.proofs.Lowered.{limits_end}
 use Rattle.view.specs.History.{with_more, laid_of}
-use Rattle.view.proofs.Laid.{Adding, adding-first, adding-more, adding-none, adding-last}
+use Rattle.view.proofs.Laid.{adding-first, adding-more, adding-none, adding-last}
 use Rattle.view.proofs.Lays.{limits_left, left-next, left-skip, left-none, left-whole}
 use Rattle.view.proofs.history.add_limits.Goals as goal
 use Rattle.view.proofs.history.add_limits.Goals.{then-l-train, else-l-train}
@@ -28,10 +28,10 @@ loop-i-preserved c =
     let l = limit_of c.speed_limit_at-l.result in
     let rest = limits_left top base tail a.number limits end (o.i + 1) in
     elim c.if-l-train.branch [
-      then-l-train w ↦
-        let r = w.add_limit-m in
-        rw (w.boards-is, w.tags-is, w.m-is) (adding-more o.invariant (laid_of base tail a.number l ∷ []) rest r.new.boards r.new.tags r.result (left-next top base tail a.number limits end o.i c.loop-i-test.true l c.speed_limit_at-l.ensures w.if-l-train.true) r.ensures r.auto.boards r.auto.tags)
-    | else-l-train w ↦ rw (w.boards-is, w.tags-is, w.m-is) (adding-none o.invariant rest (left-skip top base tail a.number limits end o.i c.loop-i-test.true l c.speed_limit_at-l.ensures w.if-l-train.false))
+      | then-l-train w ↦
+          let r = w.add_limit-m in
+          rw (w.boards-is, w.tags-is, w.m-is) (adding-more o.invariant (laid_of base tail a.number l ∷ []) rest r.new.boards r.new.tags r.result (left-next top base tail a.number limits end o.i c.loop-i-test.true l c.speed_limit_at-l.ensures w.if-l-train.true) r.ensures r.auto.boards r.auto.tags)
+      | else-l-train w ↦ rw (w.boards-is, w.tags-is, w.m-is) (adding-none o.invariant rest (left-skip top base tail a.number limits end o.i c.loop-i-test.true l c.speed_limit_at-l.ensures w.if-l-train.false))
     ]
 
 pub shape_of-boards : goal.shape_of-boards

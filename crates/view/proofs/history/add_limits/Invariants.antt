@@ -1,11 +1,9 @@
 -- `add_limits`: what is left to add from limit i on gives what was to be added at first.
-use Rattle.std.proofs.Common.{◌+◌, ◌-◌, min, [], ◌∷◌, ap, ◌∙◌, ⊎_elim, arith, rules}
-use Rattle.link.specs.Train.{top_speed, length_of}
-use Rattle.link.specs.Table.{limit_of}
-use Rattle.path_speeds.proofs.Lowered.{limits_end}
-use Rattle.view.specs.History.{with_more, laid_of}
-use Rattle.view.proofs.Laid.{Adding, adding-first, adding-more, adding-none, adding-last}
-use Rattle.view.proofs.Lays.{limits_left, left-next, left-skip, left-none, left-whole}
+use Rattle.std.proofs.Common.{◌-◌}
+use Rattle.link.specs.Train.{top_speed}
+use Rattle.view.specs.History.{with_more}
+use Rattle.view.proofs.Laid.{Adding}
+use Rattle.view.proofs.Lays.{limits_left}
 use Rattle.view.proofs.history.add_limits.Given as goal
 
 abbrev pub invariant-loop-i : goal.invariant-loop-i

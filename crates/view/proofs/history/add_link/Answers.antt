@@ -1,5 +1,5 @@
 -- `add_link`: the set that is taken, and then its limits.
-use Rattle.std.proofs.Common.{min, sym, ap, ◌∙◌, rules}
+use Rattle.std.proofs.Common.{min, sym, ap, ◌∙◌}
 use Rattle.link.specs.declared.speed_set.SetFound.TheVariants.{Found}
 use Rattle.path_speeds.specs.Limits.{speed_sets}
 use Rattle.view.specs.History.{laid_up_to, with_more}

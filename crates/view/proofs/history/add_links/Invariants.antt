@@ -1,9 +1,8 @@
 -- `add_links`: what is left to add from link point k on gives what was to be added at first.
-use Rattle.std.proofs.Common.{◌+◌, ◌-◌, min, ap, ◌∙◌, arith, rules}
+use Rattle.std.proofs.Common.{◌-◌}
 use Rattle.path_speeds.specs.Limits.{speed_sets}
-use Rattle.view.specs.History.{with_more, point_lays, lay_from_to}
-use Rattle.view.proofs.Laid.{Adding, adding-first, adding-more, adding-last}
-use Rattle.view.proofs.Lays.{lay-next, lay-none}
+use Rattle.view.specs.History.{with_more, lay_from_to}
+use Rattle.view.proofs.Laid.{Adding}
 use Rattle.view.proofs.history.add_links.Given as goal
 
 abbrev pub invariant-loop-k : goal.invariant-loop-k

@@ -1,5 +1,5 @@
 -- `applying`: the set for the train, how many conditions it has, and then whether they hold.
-use Rattle.std.proofs.Common.{◌∙◌, arith, rules}
+use Rattle.std.proofs.Common.{◌∙◌, arith}
 use Rattle.link.specs.Table.{set_at}
 use Rattle.link.proofs.Formed.{set_is}
 use Rattle.view.proofs.Lays.{taken_none, taken-many, few-taken, taken-few}

@@ -1,5 +1,5 @@
 -- `put_limit`: the two records, where there is room for them.
-use Rattle.std.proofs.Common.{◌+◌, List, [], ◌∷◌, ap, ◌∙◌, ap₂, rules}
+use Rattle.std.proofs.Common.{◌+◌, List, [], ◌∷◌, ap, ◌∙◌, ap₂}
 use lib.Ieee.{Float}
 use Rattle.view.specs.History.{laid_from, laid_up_to}
 use Rattle.view.proofs.Laid.{laid-put, laid-full}

@@ -1,5 +1,4 @@
 -- `below`: the definition, part by part.
-use Rattle.std.proofs.Common.{rules}
 use Rattle.view.specs.Holders.{below}
 use Rattle.view.proofs.holders.below.Goals as goal
 

@@ -1,5 +1,5 @@
 -- `held_by`: the search, then the top speed.
-use Rattle.std.proofs.Common.{rules, le-ltb, lt-ltb}
+use Rattle.std.proofs.Common.{le-ltb, lt-ltb}
 use Rattle.view.specs.Holders.{held_by}
 use Rattle.view.proofs.holders.held_by.Goals as goal
 

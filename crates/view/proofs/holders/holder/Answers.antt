@@ -1,7 +1,6 @@
 -- `holder`: one limit a turn.
-use Rattle.std.proofs.Common.{◌-◌, sym, ◌∙◌, arith, rules}
-use Rattle.view.specs.Holders.{holds}
-use Rattle.view.proofs.First.{Searched, searched-none, searched-here, searched-on, searched-all}
+use Rattle.std.proofs.Common.{sym, ◌∙◌}
+use Rattle.view.proofs.First.{searched-none, searched-here, searched-on, searched-all}
 use Rattle.view.proofs.holders.holder.Goals as goal
 
 pub loop-i-init : goal.loop-i-init

@@ -1,7 +1,7 @@
 -- `holder`: one limit a turn.
-use Rattle.std.proofs.Common.{◌-◌, sym, ◌∙◌, arith, rules}
+use Rattle.std.proofs.Common.{◌-◌}
 use Rattle.view.specs.Holders.{holds}
-use Rattle.view.proofs.First.{Searched, searched-none, searched-here, searched-on, searched-all}
+use Rattle.view.proofs.First.{Searched}
 use Rattle.view.proofs.holders.holder.Given as goal
 
 abbrev pub invariant-loop-i : goal.invariant-loop-i

@@ -1,5 +1,4 @@
 -- `holds`: the definition, part by part.
-use Rattle.std.proofs.Common.{rules}
 use Rattle.view.specs.Holders.{holds}
 use Rattle.view.proofs.holders.holds.Goals as goal
 

@@ -1,5 +1,5 @@
 -- `lowest_below`: one limit a turn.
-use Rattle.std.proofs.Common.{◌≡◌, ◌-◌, ◌≤◌, sym, refl, ap, ◌∙◌, ⊎_elim, arith, rules}
+use Rattle.std.proofs.Common.{◌≡◌, sym, refl, ap, ◌∙◌, arith}
 use Rattle.column.specs.declared.Two.{Two}
 use Rattle.view.specs.Holders.{lowest, speed_or}
 use Rattle.view.proofs.Lowest.{speed-none, speed-some, lowest-here, lowest-on}
@@ -16,12 +16,12 @@ loop-i-preserved c =
     let o = c.loop-i in
     let b = c.below.ensures in
     elim c.if-below.branch [
-      then-below w ↦ (
+      | then-below w ↦ (
         omega arith,
         w.found-is ∙ lowest-here a.boards.now a.tags.now a.n a.x a.v o.i o.found o.speed o.invariant.1 o.invariant.2 (sym b ∙ w.if-below.true),
         w.speed-is ∙ ap (λ (t : Two). t.0) w.two_at-speed.ensures ∙ sym (speed-some a.tags.now a.n a.v o.i c.loop-i-test.true) ∙ ap (speed_or a.tags.now a.n a.v) (sym w.found-is),
       )
-    | else-below w ↦ (
+      | else-below w ↦ (
         omega arith,
         w.found-is ∙ lowest-on a.boards.now a.tags.now a.n a.x a.v o.i o.found o.speed o.invariant.1 o.invariant.2 (sym b ∙ w.if-below.false),
         w.speed-is ∙ o.invariant.2 ∙ ap (speed_or a.tags.now a.n a.v) (sym w.found-is),

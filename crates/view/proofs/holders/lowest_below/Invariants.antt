@@ -1,8 +1,6 @@
 -- `lowest_below`: one limit a turn.
-use Rattle.std.proofs.Common.{◌≡◌, ◌-◌, ◌≤◌, sym, refl, ap, ◌∙◌, ⊎_elim, arith, rules}
-use Rattle.column.specs.declared.Two.{Two}
+use Rattle.std.proofs.Common.{◌≡◌, ◌-◌, ◌≤◌}
 use Rattle.view.specs.Holders.{lowest, speed_or}
-use Rattle.view.proofs.Lowest.{speed-none, speed-some, lowest-here, lowest-on}
 use Rattle.view.proofs.holders.lowest_below.Given as goal
 
 abbrev pub invariant-loop-i : goal.invariant-loop-i

@@ -1,5 +1,5 @@
 -- `next_start`: one limit a turn.
-use Rattle.std.proofs.Common.{◌≡◌, ◌-◌, ◌≤◌, refl, ◌∙◌, ⊎_elim, add-one, arith, rules}
+use Rattle.std.proofs.Common.{◌≡◌, refl, ◌∙◌, add-one, arith}
 use Rattle.view.specs.Holders.{next_start}
 use Rattle.view.proofs.holders.next_start.Goals as goal
 use Rattle.view.proofs.holders.next_start.Goals.{then-x-start, else-x-start}
@@ -13,8 +13,8 @@ unfolding next_start
 loop-i-preserved c = (
   omega arith,
   elim c.if-x-start.branch [
-    then-x-start w ↦ w.first-is ∙ w.lesser-first.ensures ∙ rw (add-one c.loop-i.i, ← c.three_at-start.ensures, ← c.two_at-speed.ensures, ← c.size.ensures, ← c.size-in-loop-i.ensures, w.if-x-start.true, ← c.loop-i.invariant.1)
-  | else-x-start w ↦ w.first-is ∙ rw (add-one c.loop-i.i, ← c.three_at-start.ensures, ← c.two_at-speed.ensures, ← c.size.ensures, ← c.size-in-loop-i.ensures, w.if-x-start.false, ← c.loop-i.invariant.1)
+    | then-x-start w ↦ w.first-is ∙ w.lesser-first.ensures ∙ rw (add-one c.loop-i.i, ← c.three_at-start.ensures, ← c.two_at-speed.ensures, ← c.size.ensures, ← c.size-in-loop-i.ensures, w.if-x-start.true, ← c.loop-i.invariant.1)
+    | else-x-start w ↦ w.first-is ∙ rw (add-one c.loop-i.i, ← c.three_at-start.ensures, ← c.two_at-speed.ensures, ← c.size.ensures, ← c.size-in-loop-i.ensures, w.if-x-start.false, ← c.loop-i.invariant.1)
   ],
 )
 

@@ -1,5 +1,5 @@
 -- `next_start`: one limit a turn.
-use Rattle.std.proofs.Common.{◌≡◌, ◌-◌, ◌≤◌, refl, ◌∙◌, ⊎_elim, add-one, arith, rules}
+use Rattle.std.proofs.Common.{◌≡◌, ◌-◌, ◌≤◌}
 use Rattle.view.specs.Holders.{next_start}
 use Rattle.view.proofs.holders.next_start.Given as goal
 

@@ -1,5 +1,5 @@
 -- `piece_end`: a limit by its board and its tail, otherwise the next start.
-use Rattle.std.proofs.Common.{◌≡◌, ℕ, List, [], ◌∷◌, refl, ◌∙◌, inl, inr, arith, rules}
+use Rattle.std.proofs.Common.{◌≡◌, ℕ, List, refl, ◌∙◌}
 use lib.Ieee.{Float}
 use Rattle.view.specs.declared.holders.Held.{Held}
 use Rattle.view.specs.declared.holders.Held.TheVariants.{Limit, Top, Unlisted}

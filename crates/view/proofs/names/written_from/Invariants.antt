@@ -1,5 +1,4 @@
 -- `written_from`: one character a turn.
-use Rattle.std.proofs.Common.{arith, rules}
 use Rattle.view.proofs.names.written_from.Given as goal
 
 abbrev pub invariant-loop-left : goal.invariant-loop-left

@@ -1,5 +1,5 @@
 -- `bars`: one limit a turn.
-use Rattle.std.proofs.Common.{◌-◌, arith, rules}
+use Rattle.std.proofs.Common.{◌-◌}
 use Rattle.view.proofs.picture.bars.Given as goal
 
 abbrev pub invariant-loop-i : goal.invariant-loop-i

@@ -1,5 +1,5 @@
 -- `borders`: one border a turn.
-use Rattle.std.proofs.Common.{◌-◌, arith, rules}
+use Rattle.std.proofs.Common.{◌-◌}
 use Rattle.view.proofs.picture.borders.Given as goal
 
 abbrev pub invariant-loop-i : goal.invariant-loop-i

@@ -1,5 +1,5 @@
 -- `heights`: one point a turn.
-use Rattle.std.proofs.Common.{◌-◌, arith, rules}
+use Rattle.std.proofs.Common.{◌-◌}
 use Rattle.view.proofs.picture.heights.Given as goal
 
 abbrev pub invariant-loop-i : goal.invariant-loop-i

@@ -1,5 +1,5 @@
 -- `numbers`: one link a turn.
-use Rattle.std.proofs.Common.{◌-◌, arith, rules}
+use Rattle.std.proofs.Common.{◌-◌}
 use Rattle.view.proofs.picture.numbers.Given as goal
 
 abbrev pub invariant-loop-i : goal.invariant-loop-i

@@ -1,5 +1,5 @@
 -- `reaching`: one height a turn.
-use Rattle.std.proofs.Common.{◌-◌, arith, rules}
+use Rattle.std.proofs.Common.{◌-◌}
 use Rattle.view.proofs.picture.reaching.Given as goal
 
 abbrev pub invariant-loop-i : goal.invariant-loop-i

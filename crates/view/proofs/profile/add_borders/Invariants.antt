@@ -1,5 +1,5 @@
 -- `add_borders`: one link point a turn. The column keeps its length.
-use Rattle.std.proofs.Common.{◌≡◌, ◌-◌, length, arith, rules}
+use Rattle.std.proofs.Common.{◌≡◌, ◌-◌, length}
 use Rattle.view.proofs.profile.add_borders.Given as goal
 
 abbrev pub invariant-loop-k : goal.invariant-loop-k

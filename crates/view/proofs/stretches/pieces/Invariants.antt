@@ -1,5 +1,4 @@
 -- `pieces`: one row a turn.
-use Rattle.std.proofs.Common.{arith, rules}
 use Rattle.view.proofs.stretches.pieces.Given as goal
 
 abbrev pub invariant-loop-left : goal.invariant-loop-left

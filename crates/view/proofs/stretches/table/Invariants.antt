@@ -1,5 +1,5 @@
 -- `table`: one speed point a turn.
-use Rattle.std.proofs.Common.{◌-◌, arith, rules}
+use Rattle.std.proofs.Common.{◌-◌}
 use Rattle.view.proofs.stretches.table.Given as goal
 
 abbrev pub invariant-loop-k : goal.invariant-loop-k
