@@ -11,10 +11,9 @@ use lib.Ieee.Scale.{finite}
 use borrow.Author.Tests.{eq-eqb, ne_eqb, eqb-true, eqb-false}
 use Rattle.path.specs.declared.path_tpc.PathTpc.{PathTpc}
 use Rattle.path.specs.declared.path_tpc.Answer.{Answer}
-use Rattle.path.specs.declared.path_tpc.PathAnswer.{PathAnswer}
 use Rattle.path.specs.declared.link_point.LinkPoint.{LinkPoint}
-use Rattle.path.specs.Records.{Columns, link_points, no_link_point, path_of}
-use Rattle.path.specs.Answers.{done, is_done, ask, Outcome, left, changed}
+use Rattle.path.specs.Records.{Columns, link_points, path_of}
+use Rattle.path.specs.Answers.{is_done, ask, Outcome, left, changed}
 use Rattle.path.specs.Sound.{path_finite, sound, path_answer, totals}
 use Rattle.path.proofs.LinkPoints.{length-links}
 use Rattle.path.proofs.Numbers.{take-links}
@@ -25,7 +24,7 @@ use Rattle.path_clear.proofs.Dropping.{clear_first}
 use Rattle.path_clear.proofs.Trimmed.{refused}
 use Rattle.path_clear.specs.declared.clear_each.Progress.{Progress}
 use Rattle.path_clear.specs.TrimsByPoints.{going_of, first_finite, progress_of}
-use Rattle.path_clear.specs.Trims.{trims_answer, trims_leave, list_answer, list_leaves, clear_each}
+use Rattle.path_clear.specs.Trims.{trims_answer, list_answer, list_leaves, clear_each}
 use Rattle.path_clear.proofs.Gone.{going-below}
 use Rattle.path_clear.proofs.Each.{reached, found_first, follow-answer, leave-step, follow-leave}
 

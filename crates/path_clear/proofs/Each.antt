@@ -8,7 +8,7 @@ use lib.Dec.{leb}
 use lib.ListN.{length, take, drop}
 use lib.Ieee.{Float}
 use lib.Ieee.Scale.{finite}
-use borrow.Author.Tests.{eq-eqb, ne_eqb, eqb-true, eqb-false}
+use borrow.Author.Tests.{eq-eqb, eqb-true, eqb-false}
 use Rattle.path.specs.declared.path_tpc.PathTpc.{PathTpc}
 use Rattle.path.specs.declared.path_tpc.Answer.{Answer}
 use Rattle.path.specs.declared.link_point.LinkPoint.{LinkPoint}
@@ -20,7 +20,6 @@ use Rattle.path.proofs.ReadBack.{counted, read_back}
 use Rattle.path.proofs.WrittenSound.{before}
 use Rattle.path.proofs.Tidied.{Long, changed-long, written-long}
 use Rattle.path_clear.specs.Clear.{drop_count, without_links, cleared_path, in_range, clear_answer, Cleared, clear_of}
-use Rattle.path_clear.proofs.Dropping.{clear_first}
 use Rattle.path_clear.proofs.Trimmed.{refused}
 use Rattle.path_clear.specs.declared.clear_each.Progress.{Progress}
 use Rattle.path_clear.specs.TrimsByPoints.{trim_answer, going_of}

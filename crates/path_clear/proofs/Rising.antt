@@ -15,7 +15,7 @@ use lib.Ieee.Scale.{finite}
 use Rattle.ieee.specs.Number.{all_finite}
 use Rattle.ieee.proofs.Order.{lt_trans, of-true}
 use Rattle.column.specs.Records.{flat}
-use Rattle.speed.specs.Points.{Point, offset_at}
+use Rattle.speed.specs.Points.{Point}
 use Rattle.speed_laws.specs.Words.{Every, Finite}
 use Rattle.lookup.specs.declared.path_res_coeff.PathResCoeff.{PathResCoeff}
 use Rattle.lookup.specs.Coeff as coeff

@@ -7,7 +7,7 @@ use Rattle.path.specs.declared.link_point.LinkPoint.{LinkPoint}
 use Rattle.path.specs.Records.{Columns, link_points}
 use Rattle.path.specs.Answers.{done, is_done, ask, in_turn}
 use Rattle.path.specs.Sound.{path_answer}
-use Rattle.path_clear.specs.Clear.{count_before, drop_count, in_range}
+use Rattle.path_clear.specs.Clear.{drop_count, in_range}
 use Rattle.path_clear.specs.declared.clear_each.Progress.{Progress}
 
 -- questions 1, 10 and 12 of a trim behind x, where these link points are left

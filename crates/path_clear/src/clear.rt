@@ -183,8 +183,11 @@ pub fn clear(
     districts: &mut [u32],
 ) -> ClearAnswer
     ensures { ◌≡◌ {A = spec.Cleared}
-        (record { outcome = left result.outcome
-        (columns offsets.new numbers.new grades.new curves.new speeds.new powers.new districts.new); dropped = result.dropped })
+        (record {
+          outcome = left result.outcome
+              (columns offsets.new numbers.new grades.new curves.new speeds.new powers.new districts.new);
+          dropped = result.dropped;
+        })
         (spec.clear_of x.0 p (columns offsets.old numbers.old grades.old curves.old speeds.old powers.old districts.old)) }
 {
     let answer = clear_answer(

@@ -127,8 +127,11 @@ pub fn clear_each(
     districts: &mut [u32],
 ) -> ClearAnswer
     ensures { ◌≡◌ {A = Cleared}
-        (record { outcome = left result.outcome
-        (columns offsets.new numbers.new grades.new curves.new speeds.new powers.new districts.new); dropped = result.dropped })
+        (record {
+          outcome = left result.outcome
+              (columns offsets.new numbers.new grades.new curves.new speeds.new powers.new districts.new);
+          dropped = result.dropped;
+        })
         (clear_each xs.now p (columns offsets.old numbers.old grades.old curves.old speeds.old powers.old districts.old)) }
 {
     let g = judge_trims(

@@ -1,6 +1,5 @@
 -- `clear`: refused, and then how many links go, their counts, and the path without them.
 use native.Mathlib.Omega.{arith}
-use mathlib.Core.Path.{refl}
 use Rattle.path.specs.Records.{columns}
 use Rattle.path_clear.proofs.Dropping.{clear-done}
 use Rattle.path_clear.proofs.Trimmed.{refused, links-known, links-bound, fewer, counts-gone, trimmed}

@@ -1,11 +1,9 @@
 -- `clear_answer`: the questions in their order.
 use mathlib.Core.Path.{sym, ap, ◌∙◌}
 use mathlib.Core.Bool.{Bool}
-use borrow.Author.Tests.{not-true, not-false}
 use Rattle.path.specs.Records.{columns}
 use Rattle.path.specs.Sound.{path_answer}
 use Rattle.path_clear.proofs.Dropping.{clear_first, links-there, clear-10, clear-12}
-use borrow.Author.Rules.{rules}
 use Rattle.path_clear.proofs.clear.clear_answer.Goals as goal
 
 pub returns-then-first-ne0 : goal.returns-then-first-ne0

@@ -3,7 +3,6 @@ use mathlib.Core.Path.{◌∙◌}
 use Rattle.path.specs.Records.{columns}
 use Rattle.path.proofs.Clauses.{sound-within}
 use Rattle.path_clear.proofs.Trimmed.{none-go, some_go}
-use borrow.Author.Rules.{rules}
 use Rattle.path_clear.proofs.clear.cleared.Goals as goal
 
 pub zero_rest-requires : goal.zero_rest-requires

@@ -3,7 +3,6 @@ use native.Mathlib.Omega.{arith}
 use Rattle.path.specs.Records.{columns}
 use Rattle.path.proofs.Clauses.{bounds, room, some-records, sound-within}
 use Rattle.path_clear.proofs.Cut.{few-go, cut_left}
-use borrow.Author.Rules.{rules}
 use Rattle.path_clear.proofs.clear.cut.Goals as goal
 
 pub overflow_mul-d : goal.overflow_mul-d

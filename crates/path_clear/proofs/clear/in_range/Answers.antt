@@ -1,6 +1,5 @@
 -- `in_range`: the first and the last link point.
 use Rattle.path_clear.proofs.Dropping.{range_at}
-use borrow.Author.Rules.{rules}
 use Rattle.path_clear.proofs.clear.in_range.Goals as goal
 
 pub returns : goal.returns

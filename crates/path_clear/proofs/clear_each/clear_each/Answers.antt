@@ -1,7 +1,6 @@
 -- `clear_each`: a trim refused, and the path cut where the trims end.
 use Rattle.path.specs.Records.{columns}
 use Rattle.path_clear.proofs.Called.{known, gone-below, gone-bound, gone-counts, called-refused, called-done}
-use borrow.Author.Rules.{rules}
 use Rattle.path_clear.proofs.clear_each.clear_each.Goals as goal
 
 pub returns-then-answer-ne0 : goal.returns-then-answer-ne0

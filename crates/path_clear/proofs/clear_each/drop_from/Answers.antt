@@ -1,13 +1,12 @@
 -- `drop_from`: the link points that are passed and those that still are to go make up the answer.
-use Prim.Native.Nat.{◌+◌, ◌-◌, ◌<◌}
+use Prim.Native.Nat.{◌+◌}
 use native.Mathlib.Omega.{arith}
 use mathlib.Core.Path.{◌≡◌}
 use mathlib.Core.Bool.{true, false}
-use borrow.Author.Tests.{not-true, not-false}
 use lib.ListN.{get_or}
 use lib.Ieee as Ieee
 use Rattle.ieee.specs.Number.{+0}
-use Rattle.path_clear.proofs.Gone.{Behind, behind-first, behind_more, behind-stop, behind-all}
+use Rattle.path_clear.proofs.Gone.{behind-first, behind_more, behind-stop, behind-all}
 use Rattle.path_clear.proofs.clear_each.drop_from.Goals as goal
 
 pub loop-i-init : goal.loop-i-init

@@ -1,5 +1,4 @@
 -- `first_finite`: an empty list, and the first of another.
-use borrow.Author.Rules.{rules}
 use Rattle.path_clear.proofs.Called.{first-none, first_some}
 use Rattle.path_clear.proofs.clear_each.first_finite.Goals as goal
 

@@ -1,12 +1,8 @@
 -- `going`: the trims that are left, from the first link point that stays on, give the answer of the whole list.
-use Prim.Native.Nat.{◌-◌, ◌≤◌, ◌<◌}
 use native.Mathlib.Omega.{arith}
-use mathlib.Core.Path.{◌≡◌, refl}
-use borrow.Author.Rules.{rules}
-use lib.ListN.{length, drop}
+use mathlib.Core.Path.{refl}
 use Rattle.path.specs.Records.{link_points}
 use Rattle.path.proofs.LinkPoints.{length-links}
-use Rattle.path_clear.specs.TrimsByPoints.{going_of}
 use Rattle.path_clear.proofs.Gone.{going-all, going-refused, going_next, next-below}
 use Rattle.path_clear.proofs.clear_each.going.Goals as goal
 

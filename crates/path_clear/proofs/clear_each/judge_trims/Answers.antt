@@ -1,5 +1,4 @@
 -- `judge_trims`: questions 1 and 2 of the path, and then the trims in turn.
-use borrow.Author.Rules.{rules}
 use Rattle.path.specs.Records.{columns}
 use Rattle.path_clear.proofs.Called.{progress-refused, progress-goes, some-links}
 use Rattle.path_clear.proofs.clear_each.judge_trims.Goals as goal
