@@ -1,7 +1,7 @@
 -- The order of limits does not matter to the smallest of what holds, to the bit.
 use mathlib.Core.Path.{◌≡◌, refl, sym, ap, ◌∙◌, subst}
 use mathlib.Core.Bool.{Bool, true, false, cond, ◌&&◌}
-use mathlib.Core.List.{List, [], ◌∷◌, Permᴰ}
+use mathlib.Core.List.{List, ◌∷◌, Permᴰ}
 use lib.Dec.{T}
 use lib.Ieee.{Float, binary64, fits}
 use Rattle.ieee.specs.Number.{real}

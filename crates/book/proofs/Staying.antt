@@ -26,7 +26,7 @@ use Rattle.link.specs.declared.train_params.TrainParams.{TrainParams}
 use Rattle.link.proofs.Known.{and_both}
 use Rattle.path.specs.declared.link_point.LinkPoint.{LinkPoint}
 use Rattle.path.specs.Records.{Columns, offset_of, grade_count_of, curve_count_of, power_count_of, link_point_at, end_point, Path, record_of}
-use Rattle.path.specs.Sound.{one_of_each, within_bounds, total, spare, end_counts_zero, rise_from, offsets_rise, links_sound, stands_there, count_of, first_at_offset, sound_path, sound}
+use Rattle.path.specs.Sound.{one_of_each, within_bounds, total, spare, end_counts_zero, rise_from, offsets_rise, links_sound, stands_there, count_of, first_at_offset, sound_path}
 use Rattle.path.proofs.Counts.{total-next}
 use Rattle.path.proofs.WrittenSound.{Own, Stays, in-order-from, points-some, add-up, spare-some, one_each}
 use Rattle.path_clear.proofs.Rising.{points-finite}

@@ -7,13 +7,12 @@ use lib.Dec.{T}
 use lib.ListN.{get_or}
 use lib.Ieee.{Float, binary64, nan, fits}
 use Rattle.link.specs.declared.train_params.TrainParams.{TrainParams}
-use Rattle.link.specs.Table.{LinkTable}
 use Rattle.path.specs.Records.{Columns, path_of}
 use Rattle.path.specs.Answers.{is_done}
 use Rattle.path_ends.specs.New.{new_of}
 use Rattle.book.specs.Book.{Call, book_of}
 use Rattle.book.specs.Book.Call.{extend, clear, reindex, finish}
-use Rattle.book.specs.Demand.{F64, TableF64, CallF64, CallsF64, Kept, ran_from_new}
+use Rattle.book.specs.Demand.{F64, CallF64, CallsF64, Kept, ran_from_new}
 use Rattle.book.proofs.DemandThree.{demand-3}
 
 -- what the checker gives of every f64 column that a function is lent (`shared-slice-known`): each entry is a number of binary64

@@ -1,9 +1,9 @@
 -- Demand 3: lists of calls on a path, and what holds of the path after every list. Definitions only.
-use Rattle.std.specs.Prelude.{ℕ, ◌+◌, ◌<◌, ◌≡◌, Bool, true, false, List, [], ◌∷◌, map, T, length, get_or, take, Float}
+use Rattle.std.specs.Prelude.{ℕ, ◌+◌, ◌<◌, ◌≡◌, true, false, List, [], ◌∷◌, map, T, length, get_or, take, Float}
 use Rattle.std.specs.Float.Ieee as Ieee
 use Rattle.std.specs.Float.{binary64, nan}
 use Rattle.std.specs.Float.Ieee.{fits}
-use Rattle.speed.specs.Points.{Point, offset_at}
+use Rattle.speed.specs.Points.{offset_at}
 use Rattle.speed.specs.Posted.{Sorted}
 use Rattle.lookup.specs.declared.path_res_coeff.PathResCoeff.{PathResCoeff}
 use Rattle.lookup.specs.Coeff as coeff

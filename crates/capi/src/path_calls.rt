@@ -113,8 +113,11 @@ pub extern "C" fn mochaspit_clear(
     districts: &mut [u32],
 ) -> ClearAnswer
     ensures { ◌≡◌ {A = Cleared}
-        (record { outcome = left result.outcome
-        (columns offsets.new numbers.new grades.new curves.new speeds.new powers.new districts.new); dropped = result.dropped })
+        (record {
+          outcome = left result.outcome
+              (columns offsets.new numbers.new grades.new curves.new speeds.new powers.new districts.new);
+          dropped = result.dropped;
+        })
         (clear_of offset.0 path (columns offsets.old numbers.old grades.old curves.old speeds.old powers.old districts.old)) }
 {
     path_clear::clear::clear(
@@ -144,8 +147,11 @@ pub extern "C" fn mochaspit_clear_each(
     districts: &mut [u32],
 ) -> ClearAnswer
     ensures { ◌≡◌ {A = Cleared}
-        (record { outcome = left result.outcome
-        (columns offsets.new numbers.new grades.new curves.new speeds.new powers.new districts.new); dropped = result.dropped })
+        (record {
+          outcome = left result.outcome
+              (columns offsets.new numbers.new grades.new curves.new speeds.new powers.new districts.new);
+          dropped = result.dropped;
+        })
         (clear_each xs.now path (columns offsets.old numbers.old grades.old curves.old speeds.old powers.old districts.old)) }
 {
     path_clear::clear_each::clear_each(

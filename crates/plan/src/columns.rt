@@ -176,7 +176,14 @@ fn with_links<R: std::rt::Clock>(
 }
 
 // A run with columns for the link table.
-pub fn with_table<R: std::rt::Clock>(sys: &R, to: To, clock: Clock, name: &[u8], text: &[u8], seen: Seen) -> Counts {
+pub fn with_table<R: std::rt::Clock>(
+    sys: &R,
+    to: To,
+    clock: Clock,
+    name: &[u8],
+    text: &[u8],
+    seen: Seen,
+) -> Counts {
     let mut links = [0u32; 11275];
     let mut lengths = [0.0f64; 1025];
     let mut sets = [0u32; 49200];

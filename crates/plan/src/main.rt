@@ -1,5 +1,6 @@
 // The planner: reads route files, runs their calls and shows each run as a table of stretches, or as a picture behind --svg.
 #![tactic(auto)]
+
 mod progress; // the line of a long run
 mod beside; // what the original Rust posts behind a drop
 mod changes; // calls that may change the path

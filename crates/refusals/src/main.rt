@@ -1,5 +1,6 @@
 // Rows out of a text, standard input: each calls the port, done or refused, and what it answers is printed behind the row's name.
 #![tactic(auto)]
+
 mod columns; // columns of numbers that lines of the text set
 mod fields; // the call of a line, its arguments and its name
 mod answers; // answers as they are printed

@@ -1,5 +1,6 @@
 // Replays stored calls: standard input has them, and what the port answers is printed beside the name of each.
 #![tactic(auto)]
+
 mod words; // the numbers of a text
 mod table; // columns, trains, positions and directions read from the numbers
 mod columns; // the columns of a path

@@ -1,9 +1,8 @@
 // What is printed: an answer, its values, and the lists of a path.
 use crate::columns::{Curves, Districts, Grades, Numbers, Offsets, Powers, Speeds};
-use show::STDOUT_FILENO;
 use path::link_point::link_point_at;
 use path::path_tpc::{Answer, PathTpc};
-use show::say;
+use show::{STDOUT_FILENO, say};
 
 // A count, a number or an index.
 pub fn whole(x: u64) {

@@ -1,13 +1,13 @@
 // The rows (R136 to R153), run through the code and printed as it answers them.
 #![tactic(auto)]
+
 use column::Two;
-use show::STDOUT_FILENO;
 use lookup::calc_idx::calc_idx;
 use lookup::lin_search_hint::{Dir, Found};
 use path::link_point::LinkPoint;
 use path::path_tpc::{Answer, PathTpc};
 use path_clear::clear::clear;
-use show::{count, number, say};
+use show::{STDOUT_FILENO, count, number, say};
 use si::{Length, Velocity};
 use speed::insert_speed::insert_speed;
 use speed::speed_limit::SpeedLimit;

@@ -1,5 +1,5 @@
 -- `run`: one line a turn.
-use Rattle.std.proofs.Common.{◌≡◌, ◌-◌, length, rules}
+use Rattle.std.proofs.Common.{◌≡◌, ◌-◌, length}
 use Rattle.refusals.proofs.run.Given as goal
 
 abbrev pub invariant-loop-at : goal.invariant-loop-at

@@ -1,7 +1,5 @@
 -- `replay`: one call a turn.
-use Prim.Native.Nat.{◌-◌}
 use native.Mathlib.Omega.{arith}
-use borrow.Author.Rules.{rules}
 use Rattle.replay.proofs.replay.Goals as goal
 
 pub loop-pos-smaller : goal.loop-pos-smaller

@@ -1,7 +1,5 @@
 -- `entries`: one point or entry a turn.
 use Prim.Native.Nat.{◌-◌}
-use native.Mathlib.Omega.{arith}
-use borrow.Author.Rules.{rules}
 use Rattle.rows.proofs.entries.Given as goal
 
 abbrev pub invariant-loop-i : goal.invariant-loop-i

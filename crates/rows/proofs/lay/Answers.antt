@@ -3,7 +3,6 @@ use Prim.Native.Nat.{◌*◌, ◌≤◌}
 use native.Mathlib.Omega.{arith}
 use lib.ListN.{length}
 use Rattle.speed.proofs.PointColumn.{next-zeroed}
-use borrow.Author.Rules.{rules}
 use Rattle.rows.proofs.lay.Goals as goal
 
 pub insert_speed-requires : goal.insert_speed-requires

@@ -1,5 +1,4 @@
 -- `train_of`: field by field.
-use borrow.Author.Rules.{rules}
 use Rattle.capi.proofs.codes.train_of.Goals as goal
 
 pub returns : goal.returns

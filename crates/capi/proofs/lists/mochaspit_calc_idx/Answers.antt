@@ -1,11 +1,10 @@
 -- `mochaspit_calc_idx`: by the direction that its code names.
 use mathlib.Core.Path.{ap, ◌∙◌}
 use Rattle.lookup.specs.declared.lin_search_hint.Dir.{Dir}
-use Rattle.lookup.specs.CalcIdx.{Indexed, calc_idx}
+use Rattle.lookup.specs.CalcIdx.{calc_idx}
 use Rattle.path.specs.declared.path_tpc.Answer.{Answer}
 use Rattle.resistance.specs.Listed.{searched_of, not_searched}
 use Rattle.capi.proofs.Directed.{direction-known, direction-unknown}
-use borrow.Author.Rules.{rules}
 use Rattle.capi.proofs.lists.mochaspit_calc_idx.Goals as goal
 
 pub returns-in-Known : goal.returns-in-Known

@@ -1,5 +1,5 @@
 -- `mochaspit_point_calc_res`: by the direction that its code names.
-use mathlib.Core.Path.{ap, ◌∙◌}
+use mathlib.Core.Path.{ap}
 use mathlib.Core.Bool.{false}
 use lib.Ieee.{of_bits}
 use Rattle.lookup.specs.declared.lin_search_hint.Dir.{Dir}
@@ -7,7 +7,6 @@ use Rattle.path.specs.declared.path_tpc.Answer.{Answer}
 use Rattle.path.specs.Answers.{ask}
 use Rattle.resistance.specs.Point.{calc_res_of, refused_res}
 use Rattle.capi.proofs.Directed.{direction-known, direction-unknown}
-use borrow.Author.Rules.{rules}
 use Rattle.capi.proofs.lists.mochaspit_point_calc_res.Goals as goal
 
 pub returns-in-Known : goal.returns-in-Known

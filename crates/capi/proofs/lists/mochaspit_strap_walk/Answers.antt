@@ -1,5 +1,5 @@
 -- `mochaspit_strap_walk`: by the direction that its code names.
-use mathlib.Core.Path.{ap, ◌∙◌}
+use mathlib.Core.Path.{ap}
 use mathlib.Core.Bool.{false}
 use lib.Ieee.{of_bits}
 use Rattle.lookup.specs.declared.lin_search_hint.Dir.{Dir}
@@ -8,7 +8,6 @@ use Rattle.path.specs.Answers.{ask}
 use Rattle.resistance.specs.Strap.{refused_res}
 use Rattle.resistance.specs.Walk.{walk_of}
 use Rattle.capi.proofs.Directed.{direction-known, direction-unknown}
-use borrow.Author.Rules.{rules}
 use Rattle.capi.proofs.lists.mochaspit_strap_walk.Goals as goal
 
 pub returns-in-Known : goal.returns-in-Known

@@ -3,7 +3,6 @@ use mathlib.Core.Path.{ap, ◌∙◌}
 use Rattle.path.specs.Records.{columns}
 use Rattle.link.specs.declared.train_params.TrainParams.{TrainParams}
 use Rattle.path_ends.specs.New.{new_of}
-use borrow.Author.Rules.{rules}
 use Rattle.capi.proofs.path_calls.mochaspit_new.Goals as goal
 
 pub returns : goal.returns

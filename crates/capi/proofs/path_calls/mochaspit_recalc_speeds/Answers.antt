@@ -4,7 +4,6 @@ use Rattle.link.specs.Table.{table_of}
 use Rattle.path.specs.Records.{columns}
 use Rattle.link.specs.declared.train_params.TrainParams.{TrainParams}
 use Rattle.path_speeds.specs.Recalc.{recalc_of}
-use borrow.Author.Rules.{rules}
 use Rattle.capi.proofs.path_calls.mochaspit_recalc_speeds.Goals as goal
 
 pub returns : goal.returns

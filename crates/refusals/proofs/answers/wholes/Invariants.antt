@@ -1,5 +1,5 @@
 -- `wholes`: one entry a turn.
-use Rattle.std.proofs.Common.{◌-◌, length, rules}
+use Rattle.std.proofs.Common.{◌-◌, length}
 use Rattle.refusals.proofs.answers.wholes.Given as goal
 
 abbrev pub invariant-loop-i : goal.invariant-loop-i

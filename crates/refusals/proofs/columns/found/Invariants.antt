@@ -1,5 +1,5 @@
 -- `found`: one column a turn.
-use Rattle.std.proofs.Common.{◌-◌, length, rules}
+use Rattle.std.proofs.Common.{◌-◌, length}
 use Rattle.refusals.proofs.columns.found.Given as goal
 
 abbrev pub invariant-loop-i : goal.invariant-loop-i

@@ -1,5 +1,5 @@
 -- `reals_from`: one number a turn; the column keeps its length.
-use Rattle.std.proofs.Common.{◌≡◌, ◌-◌, ◌≤◌, length, arith, length-set, rules}
+use Rattle.std.proofs.Common.{◌≡◌, ◌-◌, ◌≤◌, length}
 use Rattle.refusals.proofs.columns.reals_from.Given as goal
 
 abbrev pub invariant-loop-i : goal.invariant-loop-i

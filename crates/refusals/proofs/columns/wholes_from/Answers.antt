@@ -1,5 +1,5 @@
 -- `wholes_from`: one number a turn; the column keeps its length.
-use Rattle.std.proofs.Common.{◌≡◌, ◌-◌, ◌≤◌, length, arith, length-set, rules}
+use Rattle.std.proofs.Common.{arith, length-set}
 use Rattle.refusals.proofs.columns.wholes_from.Goals as goal
 
 pub loop-i-smaller : goal.loop-i-smaller

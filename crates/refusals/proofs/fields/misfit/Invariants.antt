@@ -1,5 +1,5 @@
 -- `misfit`: one field a turn.
-use Rattle.std.proofs.Common.{◌-◌, rules}
+use Rattle.std.proofs.Common.{◌-◌}
 use Rattle.refusals.proofs.fields.misfit.Given as goal
 
 abbrev pub invariant-loop-i : goal.invariant-loop-i

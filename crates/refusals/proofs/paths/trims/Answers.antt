@@ -1,5 +1,5 @@
 -- `trims`: each part is as long as its column.
-use Rattle.std.proofs.Common.{arith, length-take, rules}
+use Rattle.std.proofs.Common.{arith, length-take}
 use Rattle.refusals.proofs.paths.trims.Goals as goal
 
 pub slice_bounds-trims_on-end : goal.slice_bounds-trims_on-end

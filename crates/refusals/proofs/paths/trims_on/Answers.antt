@@ -1,5 +1,5 @@
 -- `trims_on`: each part is as long as its column.
-use Rattle.std.proofs.Common.{arith, length-take, rules}
+use Rattle.std.proofs.Common.{arith, length-take}
 use Rattle.refusals.proofs.paths.trims_on.Goals as goal
 
 pub slice_bounds-trim-end : goal.slice_bounds-trim-end

@@ -1,5 +1,4 @@
 -- `bits`: what is equal to itself is no NaN.
-use borrow.Author.Rules.{rules}
 use Rattle.ieee.proofs.Same.{real-is, no_nan}
 use Rattle.replay.proofs.print.bits.Goals as goal
 

@@ -1,7 +1,5 @@
 -- `points`: one link point a turn.
 use Prim.Native.Nat.{◌-◌}
-use native.Mathlib.Omega.{arith}
-use borrow.Author.Rules.{rules}
 use Rattle.replay.proofs.print.points.Given as goal
 
 abbrev pub invariant-loop-i : goal.invariant-loop-i

@@ -1,7 +1,5 @@
 -- `reals`: one entry a turn.
 use Prim.Native.Nat.{◌-◌}
-use native.Mathlib.Omega.{arith}
-use borrow.Author.Rules.{rules}
 use Rattle.replay.proofs.print.reals.Given as goal
 
 abbrev pub invariant-loop-i : goal.invariant-loop-i

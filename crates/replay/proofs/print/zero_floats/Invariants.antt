@@ -1,7 +1,5 @@
 -- `zero_floats`: one entry a turn.
 use Prim.Native.Nat.{◌-◌}
-use native.Mathlib.Omega.{arith}
-use borrow.Author.Rules.{rules}
 use lib.ListN.{length}
 use Rattle.replay.proofs.print.zero_floats.Given as goal
 

@@ -1,7 +1,5 @@
 -- `zero_numbers`: one entry a turn.
 use Prim.Native.Nat.{◌-◌}
-use native.Mathlib.Omega.{arith}
-use borrow.Author.Rules.{rules}
 use lib.ListN.{length}
 use Rattle.replay.proofs.print.zero_numbers.Given as goal
 

@@ -1,7 +1,5 @@
 -- `column_at`: one column a turn.
 use Prim.Native.Nat.{◌-◌}
-use native.Mathlib.Omega.{arith}
-use borrow.Author.Rules.{rules}
 use Rattle.replay.proofs.table.column_at.Given as goal
 
 abbrev pub invariant-loop-i : goal.invariant-loop-i

@@ -1,5 +1,4 @@
 -- `cut_floats`: the part is as long as asked.
-use borrow.Author.Rules.{rules}
 use native.Mathlib.Omega.{arith}
 use lib.ListN.{length-take}
 use Rattle.replay.proofs.table.cut_floats.Goals as goal

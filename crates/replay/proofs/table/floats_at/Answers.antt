@@ -1,9 +1,5 @@
 -- `floats_at`: one entry a turn.
-use Prim.Native.Nat.{◌-◌}
-use mathlib.Core.Path.{◌≡◌}
-use lib.ListN.{length, length-set}
-use native.Mathlib.Omega.{arith}
-use borrow.Author.Rules.{rules}
+use lib.ListN.{length-set}
 use Rattle.replay.proofs.table.floats_at.Goals as goal
 
 pub loop-i-preserved : goal.loop-i-preserved

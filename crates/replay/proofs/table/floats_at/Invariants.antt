@@ -1,9 +1,7 @@
 -- `floats_at`: one entry a turn.
 use Prim.Native.Nat.{◌-◌}
 use mathlib.Core.Path.{◌≡◌}
-use lib.ListN.{length, length-set}
-use native.Mathlib.Omega.{arith}
-use borrow.Author.Rules.{rules}
+use lib.ListN.{length}
 use Rattle.replay.proofs.table.floats_at.Given as goal
 
 abbrev pub invariant-loop-i : goal.invariant-loop-i

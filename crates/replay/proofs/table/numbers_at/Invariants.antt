@@ -1,7 +1,5 @@
 -- `numbers_at`: one entry a turn.
 use Prim.Native.Nat.{◌-◌}
-use native.Mathlib.Omega.{arith}
-use borrow.Author.Rules.{rules}
 use Rattle.replay.proofs.table.numbers_at.Given as goal
 
 abbrev pub invariant-loop-i : goal.invariant-loop-i
