@@ -7,7 +7,7 @@
  *
  * Units: metres, metres a second, kilograms, newtons, watts and radians, as doubles.
  *
- * Link with libcapi.a, which `rt staticlib capi` writes to target/staticlib (x86-64, System V calling convention), and with the C
+ * Link with libcapi.a, which `rt lib` in crates/capi writes to its out (x86-64, System V calling convention), and with the C
  * library's mathematics: -lcapi -lm. `tools/install PREFIX` installs header, archive and a pkg-config file. bindings/c/example.c is a
  * program that uses it.
  *

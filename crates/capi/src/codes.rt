@@ -73,7 +73,8 @@ fn type_of(code: u32) -> TrainType
 fn judged_length(t: Train) -> f64
     ensures { result ≡ spec.judged_length t }
 {
-    if t.train_type <= 6 {
+    let known = t.train_type <= 6;
+    if known {
         return t.length.0;
     }
     0.0 / 0.0

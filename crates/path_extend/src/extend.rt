@@ -189,7 +189,8 @@ fn extend_answer(
     if first.number != 0 {
         return first;
     }
-    if p.is_finished {
+    let closed = p.is_finished;
+    if closed {
         return asked(3, false);
     }
     let kind = train.train_type;

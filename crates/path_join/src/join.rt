@@ -42,7 +42,8 @@ fn grade_end(links: &[u32], lengths: &[f64], elevs: &[f64], base: Length, i: usi
 pub fn starting_net(m: usize, net: Length, list: &[u32], links: &[u32], elevs: &[f64]) -> Length
     ensures { result.0 ≡ spec.starting_net links.now elevs.now m net.0 list.now }
 {
-    if m != 1 {
+    let begun = m != 1;
+    if begun {
         return net;
     }
     if list.len() == 0 {

@@ -5,3 +5,4 @@ pub mod StretchSteps
 pub mod StretchesLaid
 pub mod Pushed
 pub mod Ended
+pub mod RemainderSteps

@@ -1,3 +1,4 @@
 -- The definitions of the crate `path_stretches`: what a link adds to the grades, curves and power limits of a path.
 pub mod Stretches
 pub mod Powers
+pub mod Remainder

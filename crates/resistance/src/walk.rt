@@ -57,7 +57,7 @@ fn walk_sound(
     let mut t = strap;
     let mut s = state;
     let mut left = count - 1;
-    loop {
+    'positions: loop {
         let m = moved_by(t, col, n, s, dir);
         let answer = m.answer;
         if answer.number != 0 {

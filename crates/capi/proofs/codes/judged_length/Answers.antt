@@ -9,8 +9,8 @@ no_number : div binary64 (of_bits binary64 0) (of_bits binary64 0) ≡ nan
 unfolding div of_bits
 no_number = refl
 
-pub returns-then-t-le6 : goal.returns-then-t-le6
-returns-then-t-le6 c = rw (le-leb c.args.t.train_type 6 c.if-t-le6.true)
+pub returns-then-known : goal.returns-then-known
+returns-then-known c = rw (le-leb c.args.t.train_type 6 c.if-known.true)
 
 pub returns : goal.returns
-returns c = rw (lt-leb c.args.t.train_type 6 c.if-t-le6.false) no_number
+returns c = rw (lt-leb c.args.t.train_type 6 c.if-known.false) no_number

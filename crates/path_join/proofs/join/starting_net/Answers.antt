@@ -4,10 +4,10 @@ use mathlib.Core.Path.{sym}
 use Rattle.path_join.proofs.Starting.{net-kept, net-unlisted, net-flat, net-first}
 use Rattle.path_join.proofs.join.starting_net.Goals as goal
 
-pub returns-then-m-ne1 : goal.returns-then-m-ne1
-returns-then-m-ne1 c =
+pub returns-then-begun : goal.returns-then-begun
+returns-then-begun c =
     let a = c.args in
-    sym (net-kept a.links.now a.elevs.now a.m a.net.0 a.list.now c.if-m-ne1.true)
+    sym (net-kept a.links.now a.elevs.now a.m a.net.0 a.list.now c.if-begun.true)
 
 pub returns-then-list-eq0 : goal.returns-then-list-eq0
 returns-then-list-eq0 c =
@@ -23,9 +23,9 @@ link_numbers-l-requires c = omega (arith, c.type_inv.list 0)
 pub returns-then-l-eq0 : goal.returns-then-l-eq0
 returns-then-l-eq0 c =
     let a = c.args in
-    sym (net-flat a.links.now a.elevs.now a.m a.net.0 a.list.now c.if-m-ne1.false (omega arith) c.link_numbers-l.ensures c.if-l-eq0.true)
+    sym (net-flat a.links.now a.elevs.now a.m a.net.0 a.list.now c.if-begun.false (omega arith) c.link_numbers-l.ensures c.if-l-eq0.true)
 
 pub returns : goal.returns
 returns c =
     let a = c.args in
-    net-first a.links.now a.elevs.now a.m a.net.0 a.list.now c.if-m-ne1.false (omega arith) c.link_numbers-l.ensures (omega arith) c.elev_at.ensures
+    net-first a.links.now a.elevs.now a.m a.net.0 a.list.now c.if-begun.false (omega arith) c.link_numbers-l.ensures (omega arith) c.elev_at.ensures

@@ -3,8 +3,8 @@ use Rattle.resistance.specs.Walk.{walk_of}
 use Rattle.resistance.proofs.WalkSteps.{Walking}
 use Rattle.resistance.proofs.walk.walk_sound.Given as goal
 
-abbrev pub invariant-loop-dir : goal.invariant-loop-dir
-invariant-loop-dir l = Walking l.dir l.step.0 l.strap l.n l.col (walk_of l.dir l.step.0 l.count l.strap l.initial.s l.n l.col) l.left l.t l.s
+abbrev pub invariant-positions : goal.invariant-positions
+invariant-positions l = Walking l.dir l.step.0 l.strap l.n l.col (walk_of l.dir l.step.0 l.count l.strap l.initial.s l.n l.col) l.left l.t l.s
 
-abbrev pub decreases-loop-dir : goal.decreases-loop-dir
-decreases-loop-dir l = l.left
+abbrev pub decreases-positions : goal.decreases-positions
+decreases-positions l = l.left

@@ -17,9 +17,9 @@ const GROUP: u64 = 50;
 const KEPT: usize = 100;
 const SHOWN: usize = 10;
 
-/// The planner's program: MOCHASPIT_PLAN, or the repository's target/bin/plan.
+/// The planner's program: MOCHASPIT_PLAN, or the repository's crates/plan/out/plan.
 fn program() -> String {
-    let default = concat!(env!("CARGO_MANIFEST_DIR"), "/../../../target/bin/plan");
+    let default = concat!(env!("CARGO_MANIFEST_DIR"), "/../../../crates/plan/out/plan");
     std::env::var("MOCHASPIT_PLAN").unwrap_or_else(|_| default.to_string())
 }
 

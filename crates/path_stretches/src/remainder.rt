@@ -1,0 +1,39 @@
+// The remainder of binary64: x - n * y, where n is x / y cut to a whole number. Each step is exact, so that nothing of the C library is called for it.
+ghost use Rattle.std.specs.Prelude.{◌≡◌, true};
+ghost use Rattle.std.specs.Float.{binary64};
+ghost use Rattle.std.specs.Float.Ieee as Ieee;
+ghost use Rattle.std.specs.Float.Ieee.Positive.{positive};
+ghost use Rattle.path_stretches.specs.Remainder.{has_remainder};
+
+// What is left of x where y is taken off as often as it fits: where it fits twice or more, first by twice y, and then once more at most.
+fn rest(x: f64, y: f64) -> f64
+    requires { has_remainder x y ≡ true }
+    ensures { result ≡ Ieee.rem binary64 x y }
+{
+    if x < y {
+        return x;
+    }
+    let left = x - y;
+    if left < y {
+        return left;
+    }
+    let over = rest(x, y + y);
+    if over < y {
+        return over;
+    }
+    over - y
+}
+
+// x % y with the sign of x, for a y that is finite and above 0.
+pub fn remainder(x: f64, y: f64) -> f64
+    requires { positive y ≡ true }
+    ensures { result ≡ Ieee.rem binary64 x y }
+{
+    if !ieee::is_finite(x) {
+        return x - x;
+    }
+    if ieee::is_negative(x) {
+        return -rest(-x, y);
+    }
+    rest(x, y)
+}
