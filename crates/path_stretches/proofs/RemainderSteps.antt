@@ -4,22 +4,21 @@ use mathlib.Core.Logic.{◌⊎◌, inl, inr}
 use Prim.Native.Nat.{ℕ, zero, suc, ◌+◌, ◌-◌, ◌*◌, ◌/◌, ◌%◌, ◌^◌, ◌≤◌, ◌<◌}
 use native.Mathlib.Nat.{mul_assoc, mul_comm, mul_right_comm, add-mul, mul-sub, mul-add, mul-pos, zero-mul, mul-div_cancel, mul-lt-mul_of_pos_right, mul-le-mul_right, le_of_mul-le-mul_right, mod-eq-sub-mod, lt_of_mul-lt-mul_right, mod-add-div', add-mul-mod_self_right, mod-eq_of_lt, mod-lt, mod-le}
 use native.Mathlib.Omega.{arith}
-use mathlib.Core.Bool.{Bool, true, false, not, ◌&&◌, cond, false≢true}
-use lib.IntN.{ℤ, pos}
-use lib.Dec.{T, ltb, eqb, leb}
+use mathlib.Core.Bool.{Bool, true, false, cond, false≢true}
+use lib.IntN.{ℤ}
+use lib.Dec.{T, ltb, eqb}
 use lib.Pow.{pow-add, pow_pos}
-use lib.Ieee.{Float, nan, inf, fin, binary64, prec, emax, low, up, down, round, sum, add, sub, neg, rem, lt, le, fits}
+use lib.Ieee.{Float, nan, inf, fin, binary64, low, up, down, round, sum, add, sub, neg, rem, lt, le, fits}
 use lib.Ieee.Fits.{up_pos, down_pos, round-fits, add-fits}
 use lib.Ieee.Exact.{HasValue, round_exact}
 use lib.Ieee.Scale.{finite, overflow, round_same}
 use lib.Ieee.Order.{round_mono}
 use lib.Ieee.Positive.{positive}
-use borrow.Author.Tests.{ltb-true, ltb-false, not-true, not-false, ne_eqb, lt-ltb}
+use borrow.Author.Tests.{ltb-true, ltb-false, not-false, ne_eqb, lt-ltb}
 use lib.Ieee.Bits.{cond_no}
-use lib.Dec.{eqb→eq}
 use lib.Arith.{le→nltb}
-use Rattle.ieee.specs.Number.{sign, real, ◌⊕◌, ◌⊖◌}
-use Rattle.ieee.proofs.Order.{lt-is, of-true, not-le, lt_not_le}
+use Rattle.ieee.specs.Number.{sign}
+use Rattle.ieee.proofs.Order.{lt-is, of-true, lt_not_le}
 use Rattle.ieee.proofs.Round.{fit, shift, shifted, round-of, round-neg, split}
 use Rattle.ieee.proofs.OrderKey.{count, count-exact, by-counts, key}
 use Rattle.path_stretches.specs.Remainder.{has_remainder}
@@ -233,7 +232,7 @@ module _ (m : ℕ) (e : ℤ) (n : ℕ) (d : ℤ) (x-fits : T (fits binary64 (fin
         | inl j ↦ j
         | inr j ↦
             let up : T (le (fin false n d) (sub binary64 (fin false m e) (fin false n d))) =
-                rw (sub-is g, ← whole) (round_mono binary64 Y l (X - Y) l (pow_pos (low binary64)) (pow_pos (low binary64)) (mul-le-mul_right l (omega arith))) in
+            rw (sub-is g, ← whole) (round_mono binary64 Y l (X - Y) l (pow_pos (low binary64)) (pow_pos (low binary64)) (mul-le-mul_right l (omega arith))) in
             absurd (lt_not_le (sub binary64 (fin false m e) (fin false n d)) (fin false n d) (of-true k) up)
       ] in
       sub-is g ∙ ap (λ (z : ℕ). round binary64 false z l) (sym (taken-once g near)) ∙ sym rem-is
@@ -251,7 +250,7 @@ module _ (m : ℕ) (e : ℤ) (n : ℕ) (d : ℤ) (x-fits : T (fits binary64 (fin
         let held-fits : T (fits binary64 (fin false r.m r.e)) = subst (λ (z : Float). T (fits binary64 z)) r.is (round-fits binary64 false (X - Y) l) in
         let no = by-counts binary64 false n d false r.m r.e y-fits held-fits in
         let le-is : le (fin false n d) (fin false r.m r.e) ≡ true =
-            not-false (le (fin false n d) (fin false r.m r.e)) (sym (lt-is (fin false r.m r.e) (fin false n d) tt tt) ∙ ap (λ (z : Float). lt z (fin false n d)) (sym is) ∙ k) in
+        not-false (le (fin false n d) (fin false r.m r.e)) (sym (lt-is (fin false r.m r.e) (fin false n d) tt tt) ∙ ap (λ (z : Float). lt z (fin false n d)) (sym is) ∙ k) in
         let c = no.0 (of-true le-is) in
         omega (arith, c, r.count-is, above-zero)
     | inr j ↦ j
@@ -264,18 +263,17 @@ module _ (m : ℕ) (e : ℤ) (n : ℕ) (d : ℤ) (x-fits : T (fits binary64 (fin
       let a = n * up d * down d in
       let two : a * l ≡ Y * (down d * down d) = mul_right_comm (n * up d) (down d) l ∙ ap (λ (z : ℕ). z * down d) (sym y-count) ∙ mul_assoc Y (down d) (down d) in
       let is : round binary64 false (a + a) (down d * down d) ≡ round binary64 false (Y + Y) l =
-          round_same binary64 false (a + a) (down d * down d) (Y + Y) l (mul-pos (down_pos d) (down_pos d)) (pow_pos (low binary64))
-          (add-mul a a l ∙ ap₂ (λ (x y : ℕ). x + y) two two ∙ sym (add-mul Y Y (down d * down d))) in
+      round_same binary64 false (a + a) (down d * down d) (Y + Y) l (mul-pos (down_pos d) (down_pos d)) (pow_pos (low binary64))
+      (add-mul a a l ∙ ap₂ (λ (x y : ℕ). x + y) two two ∙ sym (add-mul Y Y (down d * down d))) in
       let half = shifted-count false n d y-fits in
       let whole : Shifted (Y + Y) =
-          record {
-            digits = half.digits;
-            places = half.places + 1;
-            few = half.few;
-            is = ap₂ (λ (x y : ℕ). x + y) half.is half.is ∙ twice half.digits (2 ^ half.places) ∙ ap (λ (z : ℕ). half.digits * z) (sym (pow-add 2 half.places 1));
-          } in
+      record {
+        digits = half.digits;
+        places = half.places + 1;
+        few = half.few;
+        is = ap₂ (λ (x y : ℕ). x + y) half.is half.is ∙ twice half.digits (2 ^ half.places) ∙ ap (λ (z : ℕ). half.digits * z) (sym (pow-add 2 half.places 1));
+      } in
       subst (λ (z : Float). Counted z (Y + Y)) (sym is) (held (Y + Y) whole (omega (arith, in-range)))
-
 
 positive-count : (k : ℕ) (g : ℤ) → 0 < count binary64 k g → 0 < k
 positive-count zero g h =
@@ -374,18 +372,18 @@ module _ (x y : Float) (x-fits : T (fits binary64 x)) (y-fits : T (fits binary64
   twice-asked =
       by-forms (λ x y. lt x y ≡ false → lt (sub binary64 x y) y ≡ false → has_remainder x (add binary64 y y) ≡ true)
       (λ m e n d p q s h k.
-        let z = double m e n d p q s (far m e n d p q s h k) in
-        let above : 0 < z.m = positive-count z.m z.e (omega (arith, z.count-is, above-zero m e n d p q s)) in
-        rw (z.is, lt-ltb 0 z.m above)) x y x-fits y-fits asked
+      let z = double m e n d p q s (far m e n d p q s h k) in
+      let above : 0 < z.m = positive-count z.m z.e (omega (arith, z.count-is, above-zero m e n d p q s)) in
+      rw (z.is, lt-ltb 0 z.m above)) x y x-fits y-fits asked
 
   pub twice-nearer : lt x y ≡ false → lt (sub binary64 x y) y ≡ false → key binary64 x - key binary64 (add binary64 y y) < key binary64 x - key binary64 y
   unfolding key
   twice-nearer =
       by-forms (λ x y. lt x y ≡ false → lt (sub binary64 x y) y ≡ false → key binary64 x - key binary64 (add binary64 y y) < key binary64 x - key binary64 y)
       (λ m e n d p q s h k.
-        let f = far m e n d p q s h k in
-        let z = double m e n d p q s f in
-        rw z.is (omega (arith, z.count-is, f, above-zero m e n d p q s))) x y x-fits y-fits asked
+      let f = far m e n d p q s h k in
+      let z = double m e n d p q s f in
+      rw z.is (omega (arith, z.count-is, f, above-zero m e n d p q s))) x y x-fits y-fits asked
 
   pub rest-small : lt x y ≡ false → lt (sub binary64 x y) y ≡ false → (s : Float) → s ≡ rem binary64 x (add binary64 y y) → lt s y ≡ true → s ≡ rem binary64 x y
   rest-small =

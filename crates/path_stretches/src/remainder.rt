@@ -1,8 +1,8 @@
-// The remainder of binary64: x - n * y, where n is x / y cut to a whole number. Each step is exact, so that nothing of the C library is called for it.
+// The remainder by a whole turn: x - n * REV, where n is x / REV cut to a whole number. Each step is exact, and nothing of the C library is called.
 ghost use Rattle.std.specs.Prelude.{◌≡◌, true};
 ghost use Rattle.std.specs.Float.{binary64};
 ghost use Rattle.std.specs.Float.Ieee as Ieee;
-ghost use Rattle.std.specs.Float.Ieee.Positive.{positive};
+ghost use Rattle.si.specs.Constants.{rev};
 ghost use Rattle.path_stretches.specs.Remainder.{has_remainder};
 
 // What is left of x where y is taken off as often as it fits: where it fits twice or more, first by twice y, and then once more at most.
@@ -24,16 +24,16 @@ fn rest(x: f64, y: f64) -> f64
     over - y
 }
 
-// x % y with the sign of x, for a y that is finite and above 0.
-pub fn remainder(x: f64, y: f64) -> f64
-    requires { positive y ≡ true }
-    ensures { result ≡ Ieee.rem binary64 x y }
+// x % REV, with the sign of x.
+pub fn remainder(x: f64) -> f64
+    ensures { result ≡ Ieee.rem binary64 x rev }
 {
     if !ieee::is_finite(x) {
         return x - x;
     }
+    let whole = si::rev().0;
     if ieee::is_negative(x) {
-        return -rest(-x, y);
+        return -rest(-x, whole);
     }
-    rest(x, y)
+    rest(x, whole)
 }

@@ -91,7 +91,7 @@ fn curve_work(c0: Ratio, c1: Ratio, c2: Ratio, curvature: Curvature) -> Worked
 fn curvature_of(turn: f64, run: f64) -> Curvature
     ensures { result.0 ≡ spec.curvature_of turn run }
 {
-    let rest = remainder(turn + si::half_rev().0, si::rev().0);
+    let rest = remainder(turn + si::half_rev().0);
     Curvature(ieee::size(-si::half_rev().0 + rest) / run)
 }
 
