@@ -7,9 +7,8 @@
  *
  * Units: metres, metres a second, kilograms, newtons, watts and radians, as doubles.
  *
- * Link with libcapi.a, which `rt lib` in crates/capi writes to its out (x86-64, System V calling convention), and with the C
- * library's mathematics: -lcapi -lm. `tools/install PREFIX` installs header, archive and a pkg-config file. bindings/c/example.c is a
- * program that uses it.
+ * Link with libcapi.a, which `rt lib` in crates/capi writes to its out (x86-64, System V calling convention): -lcapi.
+ * `tools/install PREFIX` installs header, archive and a pkg-config file. bindings/c/example.c is a program that uses it.
  *
  * The processor must round to nearest and keep subnormal numbers, as it does unless a program asks for something else; one that gcc links
  * with -ffast-math or -Ofast does ask, for subnormals as 0. Floating-point traps (feenableexcept) must be off: questions compute with

@@ -2,7 +2,7 @@
  * Two links, one limit: a path is made, extended and cut, and the grade resistance on a train is taken. C99 and C++11.
  *
  * At the repository's root, with the archive that `rt lib` writes in crates/capi:
- *   gcc -std=c99 -Wall -Wextra -pedantic bindings/c/example.c -I include -L crates/capi/out -lcapi -lm -o example
+ *   gcc -std=c99 -Wall -Wextra -pedantic bindings/c/example.c -I include -L crates/capi/out -lcapi -o example
  * Or once `tools/install PREFIX` has installed it, with PREFIX/lib/pkgconfig in PKG_CONFIG_PATH:
  *   gcc -std=c99 -Wall -Wextra -pedantic bindings/c/example.c $(pkg-config --cflags --libs mochaspit) -o example
  */

@@ -162,7 +162,8 @@ pub fn well_formed(
     districts: &[u32],
     n: u32,
 ) -> bool
-    ensures { result ≡ well_formed (table_of links.now lengths.now sets.now elevs.now headings.now limits.now codes.now values.now powers.now districts.now) n }
+    ensures { result ≡ well_formed
+        (table_of links.now lengths.now sets.now elevs.now headings.now limits.now codes.now values.now powers.now districts.now) n }
 {
     let i = n as usize;
     let l = link_numbers(links, i);

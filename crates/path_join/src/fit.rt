@@ -95,7 +95,8 @@ pub fn records_fit(
     requires districts_value { within_bounds p (columns offsets.now numbers.now grades.now curves.now speeds.now powers.now districts.now) ≡ true }
     requires list_value { every
         (few_at train (sets_of
-        (table_of links.now lengths.now sets.now elevs.now headings.now limits.now codes.now values.now link_powers.now link_districts.now))) list.now ≡ true }
+        (table_of links.now lengths.now sets.now elevs.now headings.now limits.now codes.now values.now link_powers.now link_districts.now)))
+        list.now ≡ true }
     ensures { result ≡ records_fit train
         (table_of links.now lengths.now sets.now elevs.now headings.now limits.now codes.now values.now link_powers.now link_districts.now) list.now p
         (columns offsets.now numbers.now grades.now curves.now speeds.now powers.now districts.now) }

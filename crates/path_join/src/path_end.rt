@@ -99,7 +99,8 @@ pub fn sums_question(
 ) -> Judged
     requires { every
         (few_at train (sets_of
-        (table_of links.now lengths.now sets.now elevs.now headings.now limits.now codes.now values.now link_powers.now link_districts.now))) list.now ≡ true }
+        (table_of links.now lengths.now sets.now elevs.now headings.now limits.now codes.now values.now link_powers.now link_districts.now)))
+        list.now ≡ true }
     ensures { result ≡ first_no
         (spec.sums_from train own.0
         (table_of links.now lengths.now sets.now elevs.now headings.now limits.now codes.now values.now link_powers.now link_districts.now) at list.now) }

@@ -1,4 +1,4 @@
--- What the two walks by hand share, of `set_link_and_offset` and of `with_link_and_offset`: the parameters after the record, which are a path and its seven columns.
+-- What two walks by hand shared until the prover made both, cited by nothing: the parameters after the record, a path and its seven columns.
 use Prim.Native.Nat.{ℕ, zero, suc}
 use mathlib.Core.List.{List, [], ◌∷◌}
 use seplogic.Ra.Ura.{Ura}

@@ -1,4 +1,4 @@
--- Laws of the definitions, and what the two walks by hand share.
+-- Laws of the definitions.
 pub mod Behind
 pub mod Fields
 pub mod Lent
