@@ -7,7 +7,7 @@
  *
  * Units: metres, metres a second, kilograms, newtons, watts and radians, as doubles.
  *
- * Link with libcapi.a, which `rt lib` in crates/capi writes to its out (x86-64, System V calling convention): -lcapi.
+ * Link with libcapi.a, which `rt lib` in crates/capi writes to its out (x86-64-v2, System V calling convention): -lcapi.
  * `tools/install PREFIX` installs header, archive and a pkg-config file. bindings/c/example.c is a program that uses it.
  *
  * The processor must round to nearest and keep subnormal numbers, as it does unless a program asks for something else; one that gcc links

@@ -1,5 +1,6 @@
 // What the programs print: text, counts, whole numbers and numbers to three places behind the point.
 #![tactic(auto)]
+
 // The descriptors of standard input, standard output and standard error.
 pub const STDIN_FILENO: i32 = 0;
 

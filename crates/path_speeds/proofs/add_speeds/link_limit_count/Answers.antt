@@ -1,4 +1,4 @@
--- `link_count`: by the set that applies.
+-- `link_limit_count`: by the set that applies.
 use mathlib.Core.Path.{sym, ◌∙◌}
 use Rattle.link.specs.declared.speed_set.SetFound.TheVariants.{Found, Missing}
 use Rattle.link.specs.Train.{top_speed}
