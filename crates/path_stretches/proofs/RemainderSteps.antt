@@ -103,9 +103,6 @@ difference-shifted a b h k x y =
     }
 
 -- ---- values as counts
-unit : ℕ
-unit = 2 ^ low binary64
-
 shifted-count : (s : Bool) (m : ℕ) (e : ℤ) → T (fits binary64 (fin s m e)) → Shifted (count binary64 m e)
 shifted-count s zero e h =
     record { digits = 0; places = 0; few = omega arith; is = ap (λ (k : ℕ). k / down e) (simp zero-mul) ∙ mul-div_cancel 0 (down_pos e) }
