@@ -69,10 +69,8 @@ pub fn lay(col: &mut [f64], n: usize, boards: &[f64], tags: &[f64], from: usize,
         (spec.follow_all (length col.old) boards.now tags.now from (to - from) (spec.points_in n col.old)) }
 {
     let mut m = points_in(&mut *col, n);
-    let mut k = from;
-    while k < to {
+    for k in from..to {
         m = follow(&mut *col, m, boards, tags, k);
-        k += 1;
     }
     m
 }
@@ -99,12 +97,10 @@ pub fn posted_by_original(col: &[f64], n: usize, x: Length) -> Velocity
     if col.len() / 2 < n {
         return v;
     }
-    let mut i = 0;
-    while i < n {
+    for i in 0..n {
         if offset_at(col, n, i).0 <= x.0 {
             v = speed_at(col, n, i);
         }
-        i += 1;
     }
     v
 }

@@ -8,6 +8,3 @@ use Rattle.original.proofs.run.lay.Given as goal
 
 abbrev pub invariant-loop-k : goal.invariant-loop-k
 invariant-loop-k l = Laying l.boards l.tags l.to l.initial.col (follow_all (length l.initial.col) l.boards l.tags l.initial.k (l.to - l.initial.k) (points l.initial.m l.initial.col)) l.col l.m l.k
-
-abbrev pub decreases-loop-k : goal.decreases-loop-k
-decreases-loop-k l = l.to - l.k

@@ -9,6 +9,3 @@ use Rattle.original.proofs.run.posted_by_original.Given as goal
 
 abbrev pub invariant-loop-i : goal.invariant-loop-i
 invariant-loop-i l = (l.i ≤ l.n) × (posted l.x.0 (drop l.i (points l.n l.col)) l.v.0 ≡ posted l.x.0 (points l.n l.col) +0)
-
-abbrev pub decreases-loop-i : goal.decreases-loop-i
-decreases-loop-i l = l.n - l.i
