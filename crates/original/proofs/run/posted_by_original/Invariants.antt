@@ -1,5 +1,5 @@
 -- `posted_by_original`: from point i on the speed is what it was from the first on.
-use Prim.Native.Nat.{◌-◌, ◌≤◌}
+use Prim.Native.Nat.{◌≤◌}
 use mathlib.Core.Path.{◌≡◌}
 use lib.ListN.{drop}
 use Rattle.ieee.specs.Number.{+0}
