@@ -1,4 +1,5 @@
 -- A link that questions 6 and 8 have passed is entered, and the claims of the book stand.
+use Rattle.std.specs.Prelude.{Option, Some, None}
 use Prim.Native.Nat.{ℕ}
 use mathlib.Core.Path.{◌≡◌, refl, sym, ap, ◌∙◌, subst}
 use mathlib.Core.Bool.{Bool, true, false, cond, false≢true}
@@ -11,8 +12,6 @@ use Rattle.ieee.proofs.Order.{le_refl, lt→le, of-true}
 use Rattle.ieee.proofs.Sum.{add_comm}
 use Rattle.link.specs.declared.train_params.TrainParams.{TrainParams}
 use Rattle.link.specs.declared.speed_set.SpeedSet.{SpeedSet}
-use Rattle.link.specs.declared.speed_set.SetFound.{SetFound}
-use Rattle.link.specs.declared.speed_set.SetFound.TheVariants.{Found, Missing}
 use Rattle.link.specs.Train.{top_speed}
 use Rattle.link.specs.Condition.{applies}
 use Rattle.link.specs.Table.{LinkTable, link_at, set_at, set_for, conditions_of, limits_of}
@@ -30,16 +29,16 @@ use Rattle.book.proofs.FiniteTrain.{train-good}
 -- ---- the limits of a link
 
 -- a set that applies was found
-was-found : (train : TrainParams) (codes : List ℕ) (values : List Float) (set : SetFound) (s : SpeedSet) → if_applies train codes values set ≡ Found s → set ≡ Found s
+was-found : (train : TrainParams) (codes : List ℕ) (values : List Float) (set : Option SpeedSet) (s : SpeedSet) → if_applies train codes values set ≡ Some s → set ≡ Some s
 unfolding if_applies
-was-found train codes values Missing s e = e
-was-found train codes values (Found r) s e = pick (applies train (conditions_of codes values r)) e
+was-found train codes values None s e = e
+was-found train codes values (Some r) s e = pick (applies train (conditions_of codes values r)) e
   where
-    is_found : SetFound → Bool
-    is_found Missing = false
-    is_found (Found r) = true
+    is_found : Option SpeedSet → Bool
+    is_found None = false
+    is_found (Some r) = true
 
-    pick : (b : Bool) → cond b (Found r) Missing ≡ Found s → Found r ≡ Found s
+    pick : (b : Bool) → cond b (Some r) None ≡ Some s → Some r ≡ Some s
     pick true e = e
     pick false e = absurd (false≢true (ap is_found e))
 
@@ -56,10 +55,10 @@ module _ (train : TrainParams) (own : Float) (above : T (Ieee.le +0 own)) where
   unfolding entering_at finite_at
   link-enters t base n o at h g = pick (set_of train (sets_of t) n) refl g.sums
     where
-      pick : (set : SetFound) → set_of train (sets_of t) n ≡ set → limits_finite (top_speed train) base own t.limits set ≡ true
+      pick : (set : Option SpeedSet) → set_of train (sets_of t) n ≡ set → limits_finite (top_speed train) base own t.limits set ≡ true
           → AllEnter (top_speed train) o (entering base own t.limits set)
-      pick Missing e f = unfold entering in tt
-      pick (Found s) e f =
+      pick None e f = unfold entering in tt
+      pick (Some s) e f =
           let found = was-found train t.codes t.values (set_for (set_at t.sets n) train.train_type) s (unfold applying_set in e) in
           let each-formed = limits-formed t.codes t.values t.limits s (set-formed t n train.train_type s g.formed found) in
           unfold entering in all-enter base (tail_of own s) at (tail-from-zero s) (top_speed train) o h (limits_of t.limits s) each-formed (unfold limits_finite in f)

@@ -1,4 +1,5 @@
 -- `extend` leaves a path finite and sound.
+use Rattle.std.specs.Prelude.{None}
 use Prim.Native.Nat.{ℕ, suc, ◌+◌, ◌-◌, ◌*◌, ◌≤◌, ◌<◌}
 use native.Mathlib.Omega.{arith}
 use mathlib.Core.Path.{◌≡◌, refl, sym, ap, ap₂, ◌∙◌}
@@ -18,7 +19,6 @@ use Rattle.column.proofs.Finite.{finite-append}
 use Rattle.speed.specs.Points.{Point}
 use Rattle.lookup.specs.declared.path_res_coeff.PathResCoeff.{PathResCoeff}
 use Rattle.lookup.specs.Coeff.{no_coeff, stands_at, coefficient_of, net_of}
-use Rattle.link.specs.declared.network.Judged.TheVariants.{Yes}
 use Rattle.link.specs.declared.train_params.TrainParams.{TrainParams}
 use Rattle.link.specs.Lists.{every, first_no}
 use Rattle.link.specs.Train.{length_of, top_speed}
@@ -369,7 +369,7 @@ extended-most train t ns path p e =
 
 -- ---- the call
 
-real-links : (t : LinkTable) (ns : List ℕ) → question4 t.links t.lengths t.sets ns ≡ Yes → every (real_in t.links t.lengths t.sets) ns ≡ true
+real-links : (t : LinkTable) (ns : List ℕ) → question4 t.links t.lengths t.sets ns ≡ None → every (real_in t.links t.lengths t.sets) ns ≡ true
 unfolding question4
 real-links t ns e = none-fails (real_in t.links t.lengths t.sets) ns e
 

@@ -1,5 +1,5 @@
 -- Laws of conditions: an unknown comparison code, the axle limit by its size, a kind by its code, question 6, and a list of conditions.
-use Rattle.std.proofs.Common.{◌≡◌, ℕ, zero, suc, ◌+◌, ◌-◌, ◌*◌, ◌/◌, ◌^◌, ◌<◌, ◌≤◌, min, Bool, true, false, ◌&&◌, T, leb, pos, sym, refl, ap, ◌∙◌, mul-pos, le-div_iff_mul-le, add-one, arith, le→leb, leb→le, ne_eqb, le-leb, leb-false, leb-true}
+use Rattle.std.proofs.Common.{◌≡◌, ℕ, zero, suc, ◌+◌, ◌-◌, ◌*◌, ◌/◌, ◌^◌, ◌<◌, ◌≤◌, min, Bool, true, false, ◌&&◌, T, leb, pos, sym, refl, ap, ◌∙◌, mul-pos, le-div_iff_mul-le, add-one, arith, le→leb, leb→le, ne_eqb, le-leb, leb-false, leb-true, Option, Some, None}
 use lib.Ieee as Ieee
 use lib.Ieee.{Float, nan, inf, fin, up, down}
 use lib.Ieee.Fits.{down_pos}
@@ -9,8 +9,6 @@ use Rattle.ieee.proofs.Order.{le→cross, cross→le, le-real-r, lt-le-trans, lt
 use Rattle.link.specs.declared.train_params.TrainParams.{TrainParams}
 use Rattle.link.specs.declared.speed_param.SpeedParam.{SpeedParam}
 use Rattle.link.specs.declared.speed_param.SpeedParam.TheVariants.{MassTotal, MassPerBrake, AxleCount}
-use Rattle.link.specs.declared.speed_param.ParamFound.{ParamFound}
-use Rattle.link.specs.declared.speed_param.ParamFound.TheVariants.{Known, Unknown}
 use Rattle.link.specs.Lists.{every, up_from}
 use Rattle.link.specs.Condition.{Condition, by_code, holds, applies, axle_limit, param_of, ParamTold, param_told, condition_formed}
 
@@ -74,23 +72,23 @@ module _ (v : Float) where
 
 -- ---- a kind looked up by its code
 -- its code and value, looked up again
-told-again : (p : ParamFound) → param_of (param_told p).kind (param_told p).value ≡ p
+told-again : (p : Option SpeedParam) → param_of (param_told p).kind (param_told p).value ≡ p
 unfolding param_of
-told-again (Known (MassTotal v)) = refl
-told-again (Known (MassPerBrake v)) = refl
-told-again (Known (AxleCount v)) = refl
-told-again Unknown = refl
+told-again (Some (MassTotal v)) = refl
+told-again (Some (MassPerBrake v)) = refl
+told-again (Some (AxleCount v)) = refl
+told-again None = refl
 
-pub same-param : (a b : ParamFound) → param_told a ≡ param_told b → a ≡ b
+pub same-param : (a b : Option SpeedParam) → param_told a ≡ param_told b → a ≡ b
 same-param a b e = sym (told-again a) ∙ ap (λ (t : ParamTold). param_of t.kind t.value) e ∙ told-again b
 
 -- ---- question 6 of a condition
 module _ (x : Condition) where
-  pub kind-unknown : param_told (param_of x.kind x.value) ≡ param_told Unknown → false ≡ condition_formed x
+  pub kind-unknown : param_told (param_of x.kind x.value) ≡ param_told None → false ≡ condition_formed x
   unfolding condition_formed
   kind-unknown e = rw e
 
-  module _ (p : SpeedParam) (e : param_told (param_of x.kind x.value) ≡ param_told (Known p)) where
+  module _ (p : SpeedParam) (e : param_told (param_of x.kind x.value) ≡ param_told (Some p)) where
     pub code-low : x.comparison < 1 → false ≡ condition_formed x
     unfolding condition_formed
     code-low h = rw (e, lt-leb 1 x.comparison h)

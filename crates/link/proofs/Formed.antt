@@ -1,5 +1,5 @@
 -- Question 6 of limits, samples and sets, test by test as the code asks it, how many train types there are, and question 7.
-use Rattle.std.proofs.Common.{◌≡◌, ℕ, suc, ◌+◌, ◌-◌, ◌*◌, ◌<◌, ◌≤◌, Bool, true, false, ◌&&◌, leb, List, length, get_or, sym, refl, ap, ◌∙◌, ap₂, add-one, arith, lit<, le-leb}
+use Rattle.std.proofs.Common.{◌≡◌, ℕ, suc, ◌+◌, ◌-◌, ◌*◌, ◌<◌, ◌≤◌, Bool, true, false, ◌&&◌, leb, List, length, get_or, sym, refl, ap, ◌∙◌, ap₂, add-one, arith, lit<, le-leb, Option, Some, None}
 use mathlib.Core.Bool.{and-false}
 use borrow.Author.Tests.{lt-leb}
 use lib.Ieee as Ieee
@@ -10,10 +10,8 @@ use Rattle.column.specs.Records.{record_at, two}
 use Rattle.column.proofs.Filling.{get_d-within}
 use Rattle.column.proofs.Entry.{two-entries, three-entries}
 use Rattle.link.specs.declared.train_params.TrainType.{TrainType}
-use Rattle.link.specs.declared.train_params.TrainType.TheVariants.{None, Freight, Passenger, Intermodal, HighSpeedPassenger, TiltTrain, Commuter}
+use Rattle.link.specs.declared.train_params.TrainType.TheVariants.{None as NoType, Freight, Passenger, Intermodal, HighSpeedPassenger, TiltTrain, Commuter}
 use Rattle.link.specs.declared.speed_set.SpeedSet.{SpeedSet}
-use Rattle.link.specs.declared.speed_set.SetFound.{SetFound}
-use Rattle.link.specs.declared.speed_set.SetFound.TheVariants.{Found, Missing}
 use Rattle.link.specs.Lists.{every, up_from}
 use Rattle.link.specs.Train.{type_number}
 use Rattle.link.specs.Table.{Sample, Limit, limit_at, set_at, conditions_of, limits_of, set_for, SetTold, set_told}
@@ -133,7 +131,7 @@ module _ (codes : List ℕ) (values limits : List Float) (s : SpeedSet) where
 -- ---- there are seven types
 pub type-below : (t : TrainType) → type_number t < 7
 unfolding type_number
-type-below None = lit< tt
+type-below NoType = lit< tt
 type-below Freight = lit< tt
 type-below Passenger = lit< tt
 type-below Intermodal = lit< tt
@@ -148,21 +146,21 @@ set-absent codes values limits e z = rw (← e, z)
 
 -- ---- a set looked up
 -- number and set tell two answers apart
-same_set : (a b : SetFound) → set_told a ≡ set_told b → a ≡ b
-same_set (Found s) (Found r) e = ap (λ (t : SetTold). Found t.set) e
-same_set (Found s) Missing e = absurd (omega (arith, ap (λ (t : SetTold). t.number) e))
-same_set Missing (Found s) e = absurd (omega (arith, ap (λ (t : SetTold). t.number) e))
-same_set Missing Missing e = refl
+same_set : (a b : Option SpeedSet) → set_told a ≡ set_told b → a ≡ b
+same_set (Some s) (Some r) e = ap (λ (t : SetTold). Some t.set) e
+same_set (Some s) None e = absurd (omega (arith, ap (λ (t : SetTold). t.number) e))
+same_set None (Some s) e = absurd (omega (arith, ap (λ (t : SetTold). t.number) e))
+same_set None None e = refl
 
-pub set_is : (set : ℕ → SpeedSet) (type : TrainType) {r f : SetFound} → set_told r ≡ set_told (set_for set type) → r ≡ f → set_for set type ≡ f
+pub set_is : (set : ℕ → SpeedSet) (type : TrainType) {r f : Option SpeedSet} → set_told r ≡ set_told (set_for set type) → r ≡ f → set_for set type ≡ f
 set_is set type {r} e g = sym (same_set r (set_for set type) e) ∙ g
 
 -- question 7 of link k, which is n, by the answer of the look-up
-module _ (sets : List ℕ) (type : TrainType) {n k : ℕ} {r : SetFound} (e : set_told r ≡ set_told (set_for (set_at sets n) type)) (own : n ≡ k) where
-  pub set-none : r ≡ Missing → has_set sets type k ≡ false
+module _ (sets : List ℕ) (type : TrainType) {n k : ℕ} {r : Option SpeedSet} (e : set_told r ≡ set_told (set_for (set_at sets n) type)) (own : n ≡ k) where
+  pub set-none : r ≡ None → has_set sets type k ≡ false
   unfolding has_set
   set-none f = rw (← own, ← e, f)
 
-  pub set-some : {s : SpeedSet} → r ≡ Found s → has_set sets type k ≡ true
+  pub set-some : {s : SpeedSet} → r ≡ Some s → has_set sets type k ≡ true
   unfolding has_set
   set-some f = rw (← own, ← e, f)

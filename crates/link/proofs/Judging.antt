@@ -1,12 +1,11 @@
 -- The questions to a link, asked in their order: where one is answered with no, and what is left to ask after a yes.
-use Rattle.std.proofs.Common.{◌≡◌, ℕ, zero, suc, ◌+◌, ◌-◌, ◌*◌, ◌/◌, ◌<◌, ◌≤◌, Bool, true, false, not, ◌&&◌, ◌||◌, eqb, ltb, leb, List, length, get_or, sym, refl, ap, ◌∙◌, one-mul, add-one, arith, le-ltb, lt-ltb, le-leb, leb-false, leb-true}
+use Rattle.std.proofs.Common.{◌≡◌, ℕ, zero, suc, ◌+◌, ◌-◌, ◌*◌, ◌/◌, ◌<◌, ◌≤◌, Bool, true, false, not, ◌&&◌, ◌||◌, eqb, ltb, leb, List, length, get_or, sym, refl, ap, ◌∙◌, one-mul, add-one, arith, le-ltb, lt-ltb, le-leb, leb-false, leb-true, Some, None}
 use borrow.Author.Tests.{lt-leb, not-true, not-false}
 use lib.Ieee as Ieee
 use lib.Ieee.{Float}
 use lib.Ieee.Scale.{finite}
 use Rattle.ieee.specs.Number.{+0}
 use Rattle.link.specs.declared.network.LinkNumbers.{LinkNumbers}
-use Rattle.link.specs.declared.network.Judged.TheVariants.{Yes, NoAt}
 use Rattle.link.specs.Lists.{every, up_from, first_no_from}
 use Rattle.link.specs.Table.{LinkTable, sample_at, limit_at, power_at, set_at, numbers_of, link_at, in_table}
 use Rattle.link.specs.Questions.{apart, follows, contiguous, samples_formed, limit_formed, power_formed, set_formed, in_pools, well_formed}
@@ -68,11 +67,11 @@ module _ (links : List ℕ) (at : ℕ → ℕ) (asked : Bool) (prev k end : ℕ)
     unfolding first_no_from contiguous
     follow-pass t = rw (range-more at k end h, ← own, t, add-one k)
 
-    pub follow-fail : (not asked || follows prev l) ≡ false → first_no_from k (contiguous links asked prev (up_from at k (end - k))) ≡ NoAt k
+    pub follow-fail : (not asked || follows prev l) ≡ false → first_no_from k (contiguous links asked prev (up_from at k (end - k))) ≡ Some k
     unfolding first_no_from contiguous
     follow-fail t = rw (range-more at k end h, ← own, t)
 
-  pub follow-end : end ≤ k → first_no_from k (contiguous links asked prev (up_from at k (end - k))) ≡ Yes
+  pub follow-end : end ≤ k → first_no_from k (contiguous links asked prev (up_from at k (end - k))) ≡ None
   unfolding first_no_from contiguous
   follow-end h = rw (range_none at k end h)
 

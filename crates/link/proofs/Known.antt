@@ -1,5 +1,5 @@
 -- What is known of a link that question 6 has passed, and of a set that question 7 has found.
-use Rattle.std.proofs.Common.{◌≡◌, ℕ, zero, suc, ◌+◌, ◌-◌, ◌*◌, ◌<◌, ◌≤◌, Bool, true, false, cond, not, ◌&&◌, ◌||◌, eqb, leb, List, [], ◌∷◌, map, length, get_or, sym, refl, ap, ◌∙◌, le_of_suc-le-suc, not-suc-le-zero, arith, eqb-true, leb-true}
+use Rattle.std.proofs.Common.{◌≡◌, ℕ, zero, suc, ◌+◌, ◌-◌, ◌*◌, ◌<◌, ◌≤◌, Bool, true, false, cond, not, ◌&&◌, ◌||◌, eqb, leb, List, [], ◌∷◌, map, length, get_or, sym, refl, ap, ◌∙◌, le_of_suc-le-suc, not-suc-le-zero, arith, eqb-true, leb-true, Option, Some, None}
 use mathlib.Core.Bool.{false≢true}
 use lib.Ieee as Ieee
 use lib.Ieee.{Float}
@@ -7,11 +7,7 @@ use lib.Ieee.Scale.{finite}
 use Rattle.ieee.specs.Number.{+0}
 use Rattle.link.specs.declared.train_params.TrainType.{TrainType}
 use Rattle.link.specs.declared.speed_set.SpeedSet.{SpeedSet}
-use Rattle.link.specs.declared.speed_set.SetFound.{SetFound}
-use Rattle.link.specs.declared.speed_set.SetFound.TheVariants.{Found, Missing}
 use Rattle.link.specs.declared.network.LinkNumbers.{LinkNumbers}
-use Rattle.link.specs.declared.network.Judged.{Judged}
-use Rattle.link.specs.declared.network.Judged.TheVariants.{Yes, NoAt}
 use Rattle.link.specs.Lists.{every, up_from, first_no, first_no_from}
 use Rattle.link.specs.Train.{type_number}
 use Rattle.link.specs.Condition.{condition_formed}
@@ -47,12 +43,12 @@ every-at at ok start (suc n) (suc k) h e =
     let z : suc start + k ≡ start + suc k = omega arith in
     ap (λ (i : ℕ). ok (at i)) (sym z) ∙ every-at at ok (suc start) n k (le_of_suc-le-suc h) (and_both (ok (at start)) _ e).1
 
-no-yes : (i : ℕ) → NoAt i ≡ Yes → ⊥
+no-yes : (i : ℕ) → Some i ≡ None → ⊥
 no-yes i e = false≢true (ap is-yes e)
   where
-    is-yes : Judged → Bool
-    is-yes Yes = true
-    is-yes (NoAt k) = false
+    is-yes : Option ℕ → Bool
+    is-yes None = true
+    is-yes (Some k) = false
 
 module _ {A : Type 0} where
   -- one element of a list whose elements all pass
@@ -63,19 +59,19 @@ module _ {A : Type 0} where
   every_in ok (x ∷ xs) (suc k) d h e = every_in ok xs k d (le_of_suc-le-suc h) (and_both (ok x) _ e).1
 
 -- a question that no position fails passes every one
-no-from : {A : Type 0} (ok : A → Bool) (i : ℕ) (xs : List A) → first_no_from i (map ok xs) ≡ Yes → every ok xs ≡ true
+no-from : {A : Type 0} (ok : A → Bool) (i : ℕ) (xs : List A) → first_no_from i (map ok xs) ≡ None → every ok xs ≡ true
 unfolding every first_no_from
 no-from ok i [] e = refl
 no-from ok i (x ∷ xs) e = go (ok x) refl (no-from ok (suc i) xs)
   where
-    go : (b : Bool) → ok x ≡ b → (first_no_from (suc i) (map ok xs) ≡ Yes → every ok xs ≡ true) → every ok (x ∷ xs) ≡ true
+    go : (b : Bool) → ok x ≡ b → (first_no_from (suc i) (map ok xs) ≡ None → every ok xs ≡ true) → every ok (x ∷ xs) ≡ true
     go true t rest = rw t (rest (rw t at e))
     go false t rest = absurd (no-yes i (rw t at e))
 
-pub none-fails : {A : Type 0} (ok : A → Bool) (xs : List A) → first_no (map ok xs) ≡ Yes → every ok xs ≡ true
+pub none-fails : {A : Type 0} (ok : A → Bool) (xs : List A) → first_no (map ok xs) ≡ None → every ok xs ≡ true
 none-fails ok xs e = no-from ok 0 xs e
 
-pub all-formed : (t : LinkTable) (ns : List ℕ) → question6 t ns ≡ Yes → every (well_formed t) ns ≡ true
+pub all-formed : (t : LinkTable) (ns : List ℕ) → question6 t ns ≡ None → every (well_formed t) ns ≡ true
 unfolding question6
 all-formed t ns e = none-fails (well_formed t) ns e
 
@@ -129,20 +125,20 @@ formed t n e =
 -- ---- a set
 
 -- the set that is found is present, and one of the eight
-pub found : (set : ℕ → SpeedSet) (type : TrainType) (s : SpeedSet) → set_for set type ≡ Found s → (is_present s ≡ true) × ((k : ℕ) × (k < 8) × (s ≡ set k))
+pub found : (set : ℕ → SpeedSet) (type : TrainType) (s : SpeedSet) → set_for set type ≡ Some s → (is_present s ≡ true) × ((k : ℕ) × (k < 8) × (s ≡ set k))
 unfolding set_for
 found set type s e = pick (is_present (set 0)) refl (is_present (set (suc (type_number type)))) refl e
   where
-    same : (a b : SpeedSet) → Found a ≡ Found b → b ≡ a
-    same a b e = ap (λ (f : SetFound). (set_told f).set) (sym e)
+    same : (a b : SpeedSet) → Some a ≡ Some b → b ≡ a
+    same a b e = ap (λ (f : Option SpeedSet). (set_told f).set) (sym e)
 
-    none : Missing ≡ Found s → ⊥
-    none e = omega (arith, ap (λ (f : SetFound). (set_told f).number) e)
+    none : None ≡ Some s → ⊥
+    none e = omega (arith, ap (λ (f : Option SpeedSet). (set_told f).number) e)
 
     pick :
         (a : Bool) → is_present (set 0) ≡ a
         → (b : Bool) → is_present (set (suc (type_number type))) ≡ b
-        → cond a (Found (set 0)) (cond b (Found (set (suc (type_number type)))) Missing) ≡ Found s
+        → cond a (Some (set 0)) (cond b (Some (set (suc (type_number type)))) None) ≡ Some s
         → (is_present s ≡ true) × ((k : ℕ) × (k < 8) × (s ≡ set k))
     pick true x b y z = let w = same (set 0) s z in (ap is_present w ∙ x, (0, omega arith, w))
     pick false x true y z =
@@ -175,7 +171,7 @@ module _ (codes : List ℕ) (values limits : List Float) (s : SpeedSet) where
       (and_both (every condition_formed (conditions_of codes values s)) _ f.1).1
 
 -- the set that question 7 finds in a link that question 6 has passed
-pub set-formed : (t : LinkTable) (n : ℕ) (type : TrainType) (s : SpeedSet) → well_formed t n ≡ true → set_for (set_at t.sets n) type ≡ Found s → present_formed t.codes t.values t.limits s ≡ true
+pub set-formed : (t : LinkTable) (n : ℕ) (type : TrainType) (s : SpeedSet) → well_formed t n ≡ true → set_for (set_at t.sets n) type ≡ Some s → present_formed t.codes t.values t.limits s ≡ true
 unfolding link_at
 set-formed t n type s e f =
     let set = set_at t.sets n in

@@ -1,7 +1,6 @@
 -- How a pass over a range goes on: one element more, the first that fails, and none left.
-use Rattle.std.proofs.Common.{◌≡◌, ℕ, zero, suc, ◌+◌, ◌-◌, ◌<◌, ◌≤◌, Bool, true, false, ◌&&◌, List, [], ◌∷◌, ◌++◌, map, length, get_or, take, drop, sym, refl, ap, ◌∙◌, ap₂, le_of_suc-le-suc, not-suc-le-zero, add-one, arith}
+use Rattle.std.proofs.Common.{◌≡◌, ℕ, zero, suc, ◌+◌, ◌-◌, ◌<◌, ◌≤◌, Bool, true, false, ◌&&◌, List, [], ◌∷◌, ◌++◌, map, length, get_or, take, drop, sym, refl, ap, ◌∙◌, ap₂, le_of_suc-le-suc, not-suc-le-zero, add-one, arith, Some, None}
 use mathlib.Core.Bool.{and_assoc}
-use Rattle.link.specs.declared.network.Judged.TheVariants.{Yes, NoAt}
 use Rattle.link.specs.Lists.{every, up_from, first_no_from}
 
 module _ {A : Type 0} (at : ℕ → A) where
@@ -60,11 +59,11 @@ module _ {A : Type 0} (at : ℕ → A) where
     unfolding first_no_from
     first-pass h t = rw (range-more i end h, t, add-one i)
 
-    pub first-fail : i < end → ok (at i) ≡ false → first_no_from i (map ok (up_from at i (end - i))) ≡ NoAt i
+    pub first-fail : i < end → ok (at i) ≡ false → first_no_from i (map ok (up_from at i (end - i))) ≡ Some i
     unfolding first_no_from
     first-fail h t = rw (range-more i end h, t)
 
-    pub first-end : end ≤ i → first_no_from i (map ok (up_from at i (end - i))) ≡ Yes
+    pub first-end : end ≤ i → first_no_from i (map ok (up_from at i (end - i))) ≡ None
     unfolding first_no_from
     first-end h = rw (range_none i end h)
 

@@ -1,13 +1,11 @@
 -- Conditions of a speed set, R25 to R29: speed_param.rs and train_params.rs. Definitions only.
-use Rattle.std.specs.Prelude.{ℕ, Bool, false, cond, ◌&&◌, List, ◌==◌, nat_le, nat_lt, Float}
+use Rattle.std.specs.Prelude.{ℕ, Bool, false, cond, ◌&&◌, List, ◌==◌, nat_le, nat_lt, Float, Option, Some, None}
 use Rattle.std.specs.Float.Ieee as Ieee
 use Rattle.std.specs.Float.Ieee.Scale.{finite}
 use Rattle.ieee.specs.Number.{+0}
 use Rattle.link.specs.declared.train_params.TrainParams.{TrainParams}
 use Rattle.link.specs.declared.speed_param.SpeedParam.{SpeedParam}
 use Rattle.link.specs.declared.speed_param.SpeedParam.TheVariants.{MassTotal, MassPerBrake, AxleCount}
-use Rattle.link.specs.declared.speed_param.ParamFound.{ParamFound}
-use Rattle.link.specs.declared.speed_param.ParamFound.TheVariants.{Known, Unknown}
 use Rattle.link.specs.Lists.{every}
 use Rattle.link.specs.Train.{towed_mass, mass_per_brake_of, axles}
 
@@ -18,9 +16,9 @@ pub record Condition : Type 0 where
   pub value : Float
 
 -- R25: the value goes with its kind, total mass, mass per brake or axles; the kinds' codes are the Rust's: 3, 4, 5
-unfoldable pub param_of : ℕ → Float → ParamFound
+unfoldable pub param_of : ℕ → Float → Option SpeedParam
 param_of kind v =
-    cond (kind == 3) (Known (MassTotal v)) (cond (kind == 4) (Known (MassPerBrake v)) (cond (kind == 5) (Known (AxleCount v)) Unknown))
+    cond (kind == 3) (Some (MassTotal v)) (cond (kind == 4) (Some (MassPerBrake v)) (cond (kind == 5) (Some (AxleCount v)) None))
 
 -- a kind looked up by its code, as R102 wants it told: the number of the question that refuses an unknown code, the code and the value, 0 and +0 for a
 -- refusal
@@ -40,9 +38,9 @@ value_of (MassPerBrake v) = v
 value_of (AxleCount v) = v
 
 -- R102: number, code and value of each case of the enum; question 6 (R109) asks for known codes
-abbrev pub param_told : ParamFound → ParamTold
-param_told (Known p) = record { number = 0; kind = kind_of p; value = value_of p }
-param_told Unknown = record { number = 6; kind = 0; value = +0 }
+abbrev pub param_told : Option SpeedParam → ParamTold
+param_told (Some p) = record { number = 0; kind = kind_of p; value = value_of p }
+param_told None = record { number = 6; kind = 0; value = +0 }
 
 -- R26: which of =, >, <, ≥, ≤ the codes 1 to 5 ask for
 unfoldable pub by_code : ℕ → Bool → Bool → Bool → Bool → Bool → Bool
@@ -60,12 +58,12 @@ compares_count code figure limit = by_code code (figure == limit) (nat_lt limit 
 unfoldable pub axle_limit : Float → ℕ
 axle_limit v = Ieee.to_unsigned 32 v
 
-unfoldable pub param_holds : TrainParams → ℕ → ParamFound → Bool
+unfoldable pub param_holds : TrainParams → ℕ → Option SpeedParam → Bool
 unfolding by_code axle_limit
-param_holds train code Unknown = false
-param_holds train code (Known (MassTotal v)) = compares_float code (towed_mass train) v
-param_holds train code (Known (MassPerBrake v)) = compares_float code (mass_per_brake_of train) v
-param_holds train code (Known (AxleCount v)) = compares_count code (axles train) (axle_limit v)
+param_holds train code None = false
+param_holds train code (Some (MassTotal v)) = compares_float code (towed_mass train) v
+param_holds train code (Some (MassPerBrake v)) = compares_float code (mass_per_brake_of train) v
+param_holds train code (Some (AxleCount v)) = compares_count code (axles train) (axle_limit v)
 
 unfoldable pub holds : TrainParams → Condition → Bool
 unfolding param_holds param_of

@@ -1,7 +1,5 @@
 -- Small things about lists. Definitions only.
-use Rattle.std.specs.Prelude.{ℕ, zero, suc, Bool, true, cond, ◌&&◌, List, [], ◌∷◌}
-use Rattle.link.specs.declared.network.Judged.{Judged}
-use Rattle.link.specs.declared.network.Judged.TheVariants.{Yes, NoAt}
+use Rattle.std.specs.Prelude.{ℕ, zero, suc, Bool, true, cond, ◌&&◌, List, [], ◌∷◌, Option, Some, None}
 
 module _ {A : Type 0} where
   -- each element passes
@@ -14,11 +12,11 @@ module _ {A : Type 0} where
   up_from at start zero = []
   up_from at start (suc n) = at start ∷ up_from at (suc start) n
 
--- the first "no" of a list of answers whose first stands at position i: yes, or that position
-unfoldable pub first_no_from : ℕ → List Bool → Judged
-first_no_from i [] = Yes
-first_no_from i (yes? ∷ answers) = cond yes? (first_no_from (suc i) answers) (NoAt i)
+-- the first "no" of a list of answers whose first stands at position i: its position, or none
+unfoldable pub first_no_from : ℕ → List Bool → Option ℕ
+first_no_from i [] = None
+first_no_from i (yes? ∷ answers) = cond yes? (first_no_from (suc i) answers) (Some i)
 
 -- R98: the first position that fails, from 0
-abbrev pub first_no : List Bool → Judged
+abbrev pub first_no : List Bool → Option ℕ
 first_no answers = first_no_from 0 answers

@@ -1,12 +1,11 @@
 -- Questions 4 to 7 (R107 to R110), put to one link and to a list of links. Definitions only.
-use Rattle.std.specs.Prelude.{ℕ, ◌+◌, ◌*◌, Bool, true, false, cond, not, ◌&&◌, ◌||◌, List, [], ◌∷◌, map, ◌==◌, nat_le, slice_index, Float}
+use Rattle.std.specs.Prelude.{ℕ, ◌+◌, ◌*◌, Bool, true, false, cond, not, ◌&&◌, ◌||◌, List, [], ◌∷◌, map, ◌==◌, nat_le, slice_index, Float, Option}
 use Rattle.std.specs.Float.Ieee as Ieee
 use Rattle.std.specs.Float.Ieee.Scale.{finite}
 use Rattle.ieee.specs.Number.{+0}
 use Rattle.link.specs.declared.train_params.TrainType.{TrainType}
 use Rattle.link.specs.declared.speed_set.SpeedSet.{SpeedSet}
 use Rattle.link.specs.declared.network.LinkNumbers.{LinkNumbers}
-use Rattle.link.specs.declared.network.Judged.{Judged}
 use Rattle.link.specs.Lists.{every, up_from, first_no}
 use Rattle.link.specs.Condition.{condition_formed}
 use Rattle.link.specs.Table.{LinkTable, Sample, Limit, PowerLimit, in_table, numbers_of, link_at, set_at, inside, is_present, conditions_of, limits_of, set_for, set_told}
@@ -111,7 +110,7 @@ number_at points list k = cond points (slice_index list (4 * k + 3)) (slice_inde
 abbrev pub numbers : Bool → List ℕ → ℕ → List ℕ
 numbers points list count = up_from (number_at points list) 0 count
 
-unfoldable pub question4 : List ℕ → List Float → List ℕ → List ℕ → Judged
+unfoldable pub question4 : List ℕ → List Float → List ℕ → List ℕ → Option ℕ
 unfolding real_in
 question4 links lengths sets ns = first_no (map (real_in links lengths sets) ns)
 
@@ -121,14 +120,14 @@ unfolding follows
 contiguous links asked last [] = []
 contiguous links asked last (n ∷ ns) = (not asked || follows last (numbers_of links n)) ∷ contiguous links true (numbers_of links n).idx_curr ns
 
-unfoldable pub question5 : List ℕ → Bool → ℕ → List ℕ → Judged
+unfoldable pub question5 : List ℕ → Bool → ℕ → List ℕ → Option ℕ
 unfolding contiguous
 question5 links asked last ns = first_no (contiguous links asked last ns)
 
-unfoldable pub question6 : LinkTable → List ℕ → Judged
+unfoldable pub question6 : LinkTable → List ℕ → Option ℕ
 unfolding well_formed
 question6 t ns = first_no (map (well_formed t) ns)
 
-unfoldable pub question7 : List ℕ → TrainType → List ℕ → Judged
+unfoldable pub question7 : List ℕ → TrainType → List ℕ → Option ℕ
 unfolding has_set
 question7 sets type ns = first_no (map (has_set sets type) ns)

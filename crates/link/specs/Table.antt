@@ -1,5 +1,5 @@
 -- The link table: its columns, and the link that they hold at a number. What lies past a column's end counts as 0. Definitions only.
-use Rattle.std.specs.Prelude.{ℕ, suc, ◌+◌, ◌*◌, Bool, cond, ◌&&◌, List, length, ◌==◌, nat_le, nat_lt, slice_index, slice_index_or, Float}
+use Rattle.std.specs.Prelude.{ℕ, suc, ◌+◌, ◌*◌, Bool, cond, ◌&&◌, List, length, ◌==◌, nat_le, nat_lt, slice_index, slice_index_or, Float, Option, Some, None}
 use Rattle.ieee.specs.Number.{+0}
 use Rattle.column.specs.Records.{record_at, two, three}
 use Rattle.speed.specs.declared.speed_limit.SpeedLimit.{SpeedLimit}
@@ -8,8 +8,6 @@ use Rattle.link.specs.declared.elev.Heading.{Heading}
 use Rattle.link.specs.declared.cat_power.CatPowerLimit.{CatPowerLimit}
 use Rattle.link.specs.declared.train_params.TrainType.{TrainType}
 use Rattle.link.specs.declared.speed_set.SpeedSet.{SpeedSet}
-use Rattle.link.specs.declared.speed_set.SetFound.{SetFound}
-use Rattle.link.specs.declared.speed_set.SetFound.TheVariants.{Found, Missing}
 use Rattle.link.specs.declared.network.LinkNumbers.{LinkNumbers}
 use Rattle.link.specs.Lists.{up_from}
 use Rattle.link.specs.Train.{type_number}
@@ -127,9 +125,9 @@ abbrev pub limits_of : List Float → SpeedSet → List Limit
 limits_of limits s = up_from (limit_at limits) s.limits_first s.limits_count
 
 -- R30: of the set places of a link place 0, or place 1 + type
-unfoldable pub set_for : (ℕ → SpeedSet) → TrainType → SetFound
+unfoldable pub set_for : (ℕ → SpeedSet) → TrainType → Option SpeedSet
 set_for set type =
-    cond (is_present (set 0)) (Found (set 0)) (cond (is_present (set (suc (type_number type)))) (Found (set (suc (type_number type)))) Missing)
+    cond (is_present (set 0)) (Some (set 0)) (cond (is_present (set (suc (type_number type)))) (Some (set (suc (type_number type)))) None)
 
 -- a set looked up, as R102 wants it told: the number of the question that refuses a missing one, and the set, of zeros for a refusal
 pub record SetTold : Type 0 where
@@ -140,9 +138,9 @@ abbrev pub no_set : SpeedSet
 no_set = record { present = 0; is_head_end = 0; params_first = 0; params_count = 0; limits_first = 0; limits_count = 0 }
 
 -- R102: number and set of each case of the enum; question 7 (R110) refuses a missing one
-abbrev pub set_told : SetFound → SetTold
-set_told (Found s) = record { number = 0; set = s }
-set_told Missing = record { number = 7; set = no_set }
+abbrev pub set_told : Option SpeedSet → SetTold
+set_told (Some s) = record { number = 0; set = s }
+set_told None = record { number = 7; set = no_set }
 
 -- ---- a link
 

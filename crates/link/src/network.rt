@@ -9,13 +9,6 @@ use crate::elev::samples_formed;
 use crate::speed_set::{set_at, set_formed};
 use si::Length;
 
-// Whether each position of a list passes, or the first that does not.
-#[derive(Clone, Copy)]
-pub enum Judged {
-    Yes,
-    NoAt(usize),
-}
-
 // The numbers of a link: its own and its neighbours', and first and count of what it has in the pools.
 #[derive(Clone, Copy)]
 pub struct LinkNumbers {

@@ -3,8 +3,8 @@ ghost use Rattle.std.specs.Prelude.{◌≡◌, false, length};
 ghost use Rattle.link.specs.Table.{table_of};
 ghost use Rattle.link.specs.Questions as spec;
 
-use crate::network::{Judged, link_follows, link_numbers, real_in, well_formed};
-use crate::speed_set::{SetFound, set_for};
+use crate::network::{link_follows, link_numbers, real_in, well_formed};
+use crate::speed_set::set_for;
 use crate::train_params::TrainType;
 
 // The number at position k of a plain list, or of link points, four numbers to a point.
@@ -25,21 +25,21 @@ pub fn question4(
     links: &[u32],
     lengths: &[f64],
     sets: &[u32],
-) -> Judged
+) -> Option<usize>
     ensures { result ≡ spec.question4 links.now lengths.now sets.now (spec.numbers points list.now count) }
 {
     let mut k = 0;
     while k < count {
         if !real_in(links, lengths, sets, number_at(list, points, k)) {
-            return Judged::NoAt(k);
+            return Some(k);
         }
         k += 1;
     }
-    Judged::Yes
+    None
 }
 
 // Question 5 of a list: each link follows the one before, the first the path's last link where it has one.
-pub fn question5(list: &[u32], links: &[u32], has_last: bool, last: u32) -> Judged
+pub fn question5(list: &[u32], links: &[u32], has_last: bool, last: u32) -> Option<usize>
     ensures { result ≡ spec.question5 links.now has_last last (spec.numbers false list.now (length list.now)) }
 {
     let mut k = 0;
@@ -49,14 +49,14 @@ pub fn question5(list: &[u32], links: &[u32], has_last: bool, last: u32) -> Judg
         let l = link_numbers(links, list[k] as usize);
         if asked {
             if !link_follows(prev, l) {
-                return Judged::NoAt(k);
+                return Some(k);
             }
         }
         asked = true;
         prev = l.idx_curr;
         k += 1;
     }
-    Judged::Yes
+    None
 }
 
 // Question 6 of the first `count` numbers.
@@ -74,7 +74,7 @@ pub fn question6(
     values: &[f64],
     powers: &[f64],
     districts: &[u32],
-) -> Judged
+) -> Option<usize>
     ensures { result ≡ spec.question6
         (table_of links.now lengths.now sets.now elevs.now headings.now limits.now codes.now values.now powers.now districts.now)
         (spec.numbers points list.now count) }
@@ -85,25 +85,25 @@ pub fn question6(
         if !well_formed(
             links, lengths, sets, elevs, headings, limits, codes, values, powers, districts, n,
         ) {
-            return Judged::NoAt(k);
+            return Some(k);
         }
         k += 1;
     }
-    Judged::Yes
+    None
 }
 
 // Question 7 of the first `count` numbers.
-pub fn question7(list: &[u32], points: bool, count: usize, sets: &[u32], t: TrainType) -> Judged
+pub fn question7(list: &[u32], points: bool, count: usize, sets: &[u32], t: TrainType) -> Option<usize>
     ensures { result ≡ spec.question7 sets.now t (spec.numbers points list.now count) }
 {
     let mut k = 0;
     while k < count {
         let n = number_at(list, points, k);
         // this is the refusal with number 7, at place k
-        let SetFound::Found(_) = set_for(sets, n as usize, t) else {
-            return Judged::NoAt(k);
+        let Some(_) = set_for(sets, n as usize, t) else {
+            return Some(k);
         };
         k += 1;
     }
-    Judged::Yes
+    None
 }

@@ -13,26 +13,20 @@ pub enum SpeedParam {
     AxleCount(f64),
 }
 
-#[derive(Clone, Copy)]
-pub enum ParamFound {
-    Known(SpeedParam),
-    Unknown,
-}
-
 // The kind's code and the value as a condition; the codes are the Rust's, 3 to 5.
-fn speed_param(kind: u32, v: f64) -> ParamFound
+fn speed_param(kind: u32, v: f64) -> Option<SpeedParam>
     ensures { param_told result ≡ param_told (param_of kind v) }
 {
     if kind == 3 {
-        return ParamFound::Known(SpeedParam::MassTotal(v));
+        return Some(SpeedParam::MassTotal(v));
     }
     if kind == 4 {
-        return ParamFound::Known(SpeedParam::MassPerBrake(v));
+        return Some(SpeedParam::MassPerBrake(v));
     }
     if kind == 5 {
-        return ParamFound::Known(SpeedParam::AxleCount(v));
+        return Some(SpeedParam::AxleCount(v));
     }
-    ParamFound::Unknown
+    None
 }
 
 // Comparison codes 1 to 5: =, >, <, >=, <=. Which of the five a code asks for; none for another code.
@@ -105,10 +99,10 @@ fn axle_limit(v: f64) -> u32
 }
 
 // Whether the train's figure compares so with the limit value.
-fn param_holds(train: TrainParams, code: u32, p: ParamFound) -> bool
+fn param_holds(train: TrainParams, code: u32, p: Option<SpeedParam>) -> bool
     ensures { result ≡ param_holds train code p }
 {
-    let ParamFound::Known(q) = p else {
+    let Some(q) = p else {
         return false;
     };
     match q {
@@ -137,7 +131,7 @@ pub fn condition_formed(codes: &[u32], values: &[f64], i: usize) -> bool
     let kind = column::words::get(codes, 2 * i);
     let code = column::words::get(codes, 2 * i + 1);
     let v = column::floats::get(values, i);
-    let ParamFound::Known(_) = speed_param(kind, v) else {
+    let Some(_) = speed_param(kind, v) else {
         return false;
     };
     if code < 1 {

@@ -20,12 +20,6 @@ pub struct SpeedSet {
     pub limits_count: u32,
 }
 
-#[derive(Clone, Copy)]
-pub enum SetFound {
-    Found(SpeedSet),
-    Missing,
-}
-
 // Place p of link i.
 pub fn set_at(sets: &[u32], i: usize, p: usize) -> SpeedSet
     requires i_bound { i < 2 ^ 40 }
@@ -44,19 +38,19 @@ pub fn set_at(sets: &[u32], i: usize, p: usize) -> SpeedSet
 }
 
 // The single set of link i, or the one for the train's type.
-pub fn set_for(sets: &[u32], i: usize, t: TrainType) -> SetFound
+pub fn set_for(sets: &[u32], i: usize, t: TrainType) -> Option<SpeedSet>
     requires { i < 2 ^ 40 }
     ensures { set_told result ≡ set_told (set_for (set_at sets.now i) t) }
 {
     let single = set_at(sets, i, 0);
     if single.present == 1 {
-        return SetFound::Found(single);
+        return Some(single);
     }
     let typed = set_at(sets, i, type_number(t) + 1);
     if typed.present == 1 {
-        return SetFound::Found(typed);
+        return Some(typed);
     }
-    SetFound::Missing
+    None
 }
 
 // Question 6 of `count` conditions from `first` on.

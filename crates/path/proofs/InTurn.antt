@@ -1,4 +1,5 @@
 -- Questions in turn: the first no is the answer, and done says that each was answered with yes. What a call leaves, refused and done.
+use Rattle.std.specs.Prelude.{Option, Some, None}
 use Prim.Native.Nat.{ℕ, suc}
 use native.Mathlib.Omega.{arith}
 use mathlib.Core.Path.{◌≡◌, refl, sym, ap, ap₂, ◌∙◌}
@@ -6,8 +7,6 @@ use mathlib.Core.Bool.{Bool, true, false, ◌&&◌}
 use mathlib.Core.List.{List, [], ◌∷◌}
 use lib.Dec.{eqb}
 use borrow.Author.Tests.{eq-eqb, ne_eqb, eqb-true, eqb-false}
-use Rattle.link.specs.declared.network.Judged.{Judged}
-use Rattle.link.specs.declared.network.Judged.TheVariants.{Yes, NoAt}
 use Rattle.link.specs.declared.train_params.TrainType.{TrainType}
 use Rattle.link.specs.Table.{LinkTable}
 use Rattle.link.specs.Questions.{question4, question6, question7}
@@ -52,10 +51,10 @@ unfolding in_turn
 last_one n true = refl
 last_one n false = first-no n [] refl
 
-pub last-each : (n : ℕ) (j : Judged) → in_turn (ask_each (suc n) j ∷ []) ≡ ask_each (suc n) j
+pub last-each : (n : ℕ) (j : Option ℕ) → in_turn (ask_each (suc n) j ∷ []) ≡ ask_each (suc n) j
 unfolding in_turn
-last-each n Yes = refl
-last-each n (NoAt i) = turn-no (ask_each (suc n) (NoAt i)) [] refl (λ h. omega arith)
+last-each n None = refl
+last-each n (Some i) = turn-no (ask_each (suc n) (Some i)) [] refl (λ h. omega arith)
 
 -- an answer with number 0 has place 0
 pub turn-none : (answers : List Answer) → (in_turn answers).number ≡ 0 → in_turn answers ≡ done
@@ -65,9 +64,9 @@ turn-none (a ∷ rest) h =
     let t = turn-done a rest h in
     turn-yes a rest refl t.0 ∙ turn-none rest t.1
 
-pub each-done : (n : ℕ) (j : Judged) → (ask_each (suc n) j).number ≡ 0 → j ≡ Yes
-each-done n Yes h = refl
-each-done n (NoAt i) h = absurd (omega arith)
+pub each-done : (n : ℕ) (j : Option ℕ) → (ask_each (suc n) j).number ≡ 0 → j ≡ None
+each-done n None h = refl
+each-done n (Some i) h = absurd (omega arith)
 
 -- the last question is itself several in turn
 pub turn_last : (answers : List Answer) → in_turn (in_turn answers ∷ []) ≡ in_turn answers
@@ -79,7 +78,7 @@ turn_last answers = go (eqb (in_turn answers).number 0) refl
     go false e = turn-no (in_turn answers) [] refl (eqb-false (in_turn answers).number 0 e)
 
 -- ---- questions 4 to 7
-module _ (t : LinkTable) (type : TrainType) (fifth : Judged) (ns : List ℕ) where
+module _ (t : LinkTable) (type : TrainType) (fifth : Option ℕ) (ns : List ℕ) where
   abbrev after6 : List Answer
   after6 = ask_each 7 (question7 t.sets type ns) ∷ []
 
@@ -115,7 +114,7 @@ module _ (t : LinkTable) (type : TrainType) (fifth : Judged) (ns : List ℕ) whe
             ∙ sym (turn-yes first4 after4 e4 h4 ∙ turn-yes (ask_each 5 fifth) after5 e5 h5 ∙ turn-yes (ask_each 6 (question6 t ns)) after6 e6 h6 ∙ last-each 6 (question7 t.sets type ns))
 
   -- what is known of links that pass
-  pub links-done : (links_answer t type fifth ns).number ≡ 0 → (question6 t ns ≡ Yes) × (question7 t.sets type ns ≡ Yes)
+  pub links-done : (links_answer t type fifth ns).number ≡ 0 → (question6 t ns ≡ None) × (question7 t.sets type ns ≡ None)
   unfolding links_answer
   links-done h =
       let a = turn-done first4 after4 h in

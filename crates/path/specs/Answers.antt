@@ -1,7 +1,5 @@
 -- Questions and answers, R98 to R101: the first no gives number and place; done is 0, place 0. Definitions only.
-use Rattle.std.specs.Prelude.{ℕ, Bool, cond, List, [], ◌∷◌, eqb}
-use Rattle.link.specs.declared.network.Judged.{Judged}
-use Rattle.link.specs.declared.network.Judged.TheVariants.{Yes, NoAt}
+use Rattle.std.specs.Prelude.{ℕ, Bool, cond, List, [], ◌∷◌, eqb, Option, Some, None}
 use Rattle.link.specs.declared.train_params.TrainType.{TrainType}
 use Rattle.link.specs.Table.{LinkTable}
 use Rattle.link.specs.Questions.{question4, question6, question7}
@@ -21,9 +19,9 @@ abbrev pub ask : ℕ → Bool → Answer
 ask n yes? = cond yes? done (record { number = n; place = 0 })
 
 -- question n put to each position in turn
-abbrev pub ask_each : ℕ → Judged → Answer
-ask_each n Yes = done
-ask_each n (NoAt i) = record { number = n; place = i }
+abbrev pub ask_each : ℕ → Option ℕ → Answer
+ask_each n None = done
+ask_each n (Some i) = record { number = n; place = i }
 
 -- the first refusal of a list of answers, and done where there is none
 unfoldable pub in_turn : List Answer → Answer
@@ -31,7 +29,7 @@ in_turn [] = done
 in_turn (a ∷ rest) = cond (is_done a) (in_turn rest) a
 
 -- questions 4 to 7 of the links ns; `fifth` is the answer to question 5, which a recalculation does not ask (yes)
-unfoldable pub links_answer : LinkTable → TrainType → Judged → List ℕ → Answer
+unfoldable pub links_answer : LinkTable → TrainType → Option ℕ → List ℕ → Answer
 unfolding in_turn
 links_answer t type fifth ns =
     in_turn (

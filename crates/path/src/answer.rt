@@ -7,7 +7,6 @@ ghost use Rattle.path.specs.Sound.{path_answer};
 use crate::finite::path_finite;
 use crate::path_tpc::{Answer, PathTpc};
 use crate::sound::path_sound;
-use link::network::Judged;
 
 // Done.
 pub fn done() -> Answer
@@ -33,15 +32,15 @@ pub fn asked(number: u32, yes: bool) -> Answer
 }
 
 // The answer to a question that was put to each position.
-pub fn asked_each(number: u32, judged: Judged) -> Answer
+pub fn asked_each(number: u32, judged: Option<usize>) -> Answer
     ensures { result ≡ ask_each number judged }
 {
     match judged {
-        Judged::Yes => Answer {
+        None => Answer {
             number: 0,
             place: 0,
         },
-        Judged::NoAt(place) => Answer { number, place },
+        Some(place) => Answer { number, place },
     }
 }
 

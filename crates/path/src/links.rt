@@ -6,7 +6,6 @@ ghost use Rattle.path.specs.Answers.{links_answer};
 
 use crate::answer::asked_each;
 use crate::path_tpc::Answer;
-use link::network::Judged;
 use link::questions::{question4, question6, question7};
 use link::train_params::TrainType;
 
@@ -15,7 +14,7 @@ pub fn links_answer(
     list: &[u32],
     points: bool,
     count: usize,
-    fifth: Judged,
+    fifth: Option<usize>,
     links: &[u32],
     lengths: &[f64],
     sets: &[u32],

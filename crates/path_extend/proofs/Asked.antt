@@ -1,4 +1,5 @@
 -- `extend`: its questions in turn, and what an answer that is done has settled.
+use Rattle.std.specs.Prelude.{Option}
 use Prim.Native.Nat.{ℕ, ◌+◌, ◌-◌, ◌*◌, ◌≤◌, ◌<◌}
 use native.Mathlib.Omega.{arith}
 use mathlib.Core.Path.{◌≡◌, refl, sym, ap, ap₂, ◌∙◌}
@@ -12,7 +13,6 @@ use Rattle.column.proofs.Bridge.{length-records}
 use Rattle.lookup.specs.Coeff.{triple, coeffs, stands_at, net_of}
 use Rattle.lookup.proofs.Coeffs.{triple-lawful}
 use Rattle.link.specs.declared.train_params.TrainParams.{TrainParams}
-use Rattle.link.specs.declared.network.Judged.{Judged}
 use Rattle.link.specs.Lists.{every, first_no}
 use Rattle.link.specs.Train.{length_of}
 use Rattle.link.specs.Table.{LinkTable}
@@ -40,13 +40,13 @@ use Rattle.path_extend.proofs.PathEnds.{same-path-end}
 
 -- ---- question 5
 module _ (links : List ℕ) (os : List Float) (nums : List ℕ) (n : ℕ) (list : List ℕ) where
-  pub follows-none : {j : Judged} → n < 2 → j ≡ question5 links false 0 (numbers false list (length list)) → j ≡ followed links (link_points n os nums) list
+  pub follows-none : {j : Option ℕ} → n < 2 → j ≡ question5 links false 0 (numbers false list (length list)) → j ≡ followed links (link_points n os nums) list
   unfolding followed
   follows-none h e =
       let few : leb 2 (length (link_points n os nums)) ≡ false = lt-leb 2 (length (link_points n os nums)) (omega (arith, length-links n os nums)) in
       e ∙ ap (question5 links false 0) (numbers-plain list) ∙ ap (λ (b : Bool). question5 links b (cond b (number_of (link_point_at (link_points n os nums) (length (link_points n os nums) - 2))) 0) list) (sym few)
 
-  pub follows-last : {j : Judged} {q : LinkPoint} → 2 ≤ n → q ≡ point_at os nums (n - 2) → j ≡ question5 links true (number_of q) (numbers false list (length list)) → j ≡ followed links (link_points n os nums) list
+  pub follows-last : {j : Option ℕ} {q : LinkPoint} → 2 ≤ n → q ≡ point_at os nums (n - 2) → j ≡ question5 links true (number_of q) (numbers false list (length list)) → j ≡ followed links (link_points n os nums) list
   unfolding followed
   follows-last h f e =
       let l = length-links n os nums in
@@ -80,7 +80,7 @@ module _ (train : TrainParams) (t : LinkTable) (ns : List ℕ) (p : PathTpc) (c 
 
 -- ---- questions 8 and 9
 module _ (train : TrainParams) (own : Float) (t : LinkTable) (ns : List ℕ) (p : PathTpc) (c : Columns) where
-  abbrev summed : Judged
+  abbrev summed : Option ℕ
   summed = first_no (sums_from train own t (path_end_of (started t (path_of p c) ns)) ns)
 
   module _ {r : Answer} (e : r ≡ ask_each 8 summed) where

@@ -10,7 +10,6 @@ ghost use Rattle.path_join.specs.Joined.{started, join_all};
 ghost use Rattle.path_extend.specs.Extend as spec;
 ghost use Rattle.path_extend.specs.Ready as ready;
 
-use link::network::Judged;
 use link::questions::question5;
 use link::train_params::TrainParams;
 use lookup::path_res_coeff::coeff_at;
@@ -33,7 +32,7 @@ fn follow_question(
     n: usize,
     list: &[u32],
     links: &[u32],
-) -> Judged
+) -> Option<usize>
     ensures { result ≡ spec.followed links.now (link_points n offsets.now numbers.now) list.now }
 {
     if n < 2 {

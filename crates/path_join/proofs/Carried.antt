@@ -1,4 +1,5 @@
 -- Question 8 carried from link to link: what one link answers, and the first that fails of those from position k on.
+use Rattle.std.specs.Prelude.{Some, None}
 use Prim.Native.Nat.{ℕ, ◌+◌, ◌≤◌, ◌<◌}
 use native.Mathlib.Numerals.{add-one}
 use mathlib.Core.Path.{◌≡◌, ap}
@@ -11,7 +12,6 @@ use lib.Ieee.Scale.{finite}
 use Rattle.ieee.specs.Number.{◌⊕◌}
 use Rattle.link.specs.declared.train_params.TrainParams.{TrainParams}
 use Rattle.link.specs.declared.network.LinkNumbers.{LinkNumbers}
-use Rattle.link.specs.declared.network.Judged.TheVariants.{Yes, NoAt}
 use Rattle.link.specs.Lists.{every, up_from, first_no_from}
 use Rattle.link.specs.Table.{LinkTable, sample_at, power_at, numbers_of}
 use Rattle.link.proofs.Judging.{said-no, said-yes}
@@ -51,10 +51,10 @@ module _ (train : TrainParams) (own : Float) (t : LinkTable) (at : PathEnd) wher
       unfolding first_no_from sums_from
       sums-pass p = rw (left-next ns k h, said-yes (ap (λ (v : Walked). v.finite) e) p, add-one k, e)
 
-      pub sums-fail : not w.finite ≡ true → first_no_from k (sums_from train own t at (drop k ns)) ≡ NoAt k
+      pub sums-fail : not w.finite ≡ true → first_no_from k (sums_from train own t at (drop k ns)) ≡ Some k
       unfolding first_no_from sums_from
       sums-fail p = rw (left-next ns k h, said-no (ap (λ (v : Walked). v.finite) e) p)
 
-    pub sums-end : length ns ≤ k → first_no_from k (sums_from train own t at (drop k ns)) ≡ Yes
+    pub sums-end : length ns ≤ k → first_no_from k (sums_from train own t at (drop k ns)) ≡ None
     unfolding first_no_from sums_from
     sums-end h = rw (drop_of_length-le ns h)

@@ -6,7 +6,7 @@ ghost use Rattle.path_speeds.specs.Limits.{sets_of, few_at};
 ghost use Rattle.path_join.specs.Sums as spec;
 ghost use Rattle.path_join.specs.Walked.{walked};
 
-use link::network::{Judged, link_numbers};
+use link::network::link_numbers;
 use link::train_params::TrainParams;
 use path_speeds::add_speeds::link_finite;
 use path_stretches::powers::powers_finite;
@@ -96,7 +96,7 @@ pub fn sums_question(
     link_districts: &[u32],
     own: Length,
     train: TrainParams,
-) -> Judged
+) -> Option<usize>
     requires { every
         (few_at train (sets_of
         (table_of links.now lengths.now sets.now elevs.now headings.now limits.now codes.now values.now link_powers.now link_districts.now)))
@@ -125,10 +125,10 @@ pub fn sums_question(
             train,
         );
         if !w.finite {
-            return Judged::NoAt(k);
+            return Some(k);
         }
         here = w.after;
         k += 1;
     }
-    Judged::Yes
+    None
 }

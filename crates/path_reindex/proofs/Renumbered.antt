@@ -1,4 +1,5 @@
 -- `reindex`: refused, and done.
+use Rattle.std.specs.Prelude.{Option}
 use Prim.Native.Nat.{ℕ, ◌-◌, ◌*◌, ◌≤◌, ◌<◌}
 use mathlib.Core.Path.{◌≡◌, refl, sym, ap, ap₂, ◌∙◌}
 use mathlib.Core.Bool.{true, false, not}
@@ -12,7 +13,6 @@ use Rattle.column.specs.declared.Four.{Four}
 use Rattle.column.specs.Entries.{filled}
 use Rattle.column.specs.Records.{records, four}
 use Rattle.column.proofs.Bridge.{four-lawful, held-length, held-records, held-again}
-use Rattle.link.specs.declared.network.Judged.{Judged}
 use Rattle.link.specs.Lists.{first_no}
 use Rattle.link.specs.Questions.{numbers}
 use Rattle.path.specs.declared.path_tpc.PathTpc.{PathTpc}
@@ -98,7 +98,7 @@ module _ (new : List ℕ) (p : PathTpc) (c : Columns) where
       some-points = some-link p c (sound-within p c (judged-done true p c e t).2).0
 
       -- j is the code's answer to question 4
-      pub reindex-4 : {j : Judged} → j ≡ first_no (map (renumbers new) (numbers true c.numbers (p.link_count - 1))) → reindex_answer new p c ≡ ask_each 4 j
+      pub reindex-4 : {j : Option ℕ} → j ≡ first_no (map (renumbers new) (numbers true c.numbers (p.link_count - 1))) → reindex_answer new p c ≡ ask_each 4 j
       unfolding reindex_answer
       reindex-4 g =
           turn-yes (path_answer true p c) fourth e t

@@ -10,7 +10,6 @@ ghost use Rattle.path_reindex.specs.Fours as fours;
 
 use column::Four;
 use column::words::{four_at, get, put_four};
-use link::network::Judged;
 use link::questions::number_at;
 use path::answer::{asked_each, path_answer};
 use path::path_tpc::{Answer, PathAnswer, PathTpc};
@@ -28,17 +27,17 @@ fn renumbers(new: &[u32], n: u32) -> bool
 }
 
 // Question 4 of the first `count` link points.
-fn renumber_question(numbers: &[u32], count: usize, new: &[u32]) -> Judged
+fn renumber_question(numbers: &[u32], count: usize, new: &[u32]) -> Option<usize>
     ensures { result ≡ first_no (map (spec.renumbers new.now) (questions.numbers true numbers.now count)) }
 {
     let mut k = 0;
     while k < count {
         if !renumbers(new, number_at(numbers, true, k)) {
-            return Judged::NoAt(k);
+            return Some(k);
         }
         k += 1;
     }
-    Judged::Yes
+    None
 }
 
 // Questions 1, 2 and 4.

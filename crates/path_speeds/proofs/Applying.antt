@@ -1,4 +1,5 @@
 -- The set that applies, and what a link's limits are by it.
+use Rattle.std.specs.Prelude.{Option, Some, None}
 use Prim.Native.Nat.{ℕ, suc, ◌≤◌, ◌<◌, ◌^◌}
 use native.Mathlib.Omega.{arith}
 use mathlib.Core.Path.{◌≡◌, refl, sym, ap, ◌∙◌}
@@ -11,8 +12,6 @@ use mir.Syntax.{w32}
 use mir.Val.{Fits}
 use Rattle.link.specs.declared.train_params.TrainParams.{TrainParams}
 use Rattle.link.specs.declared.speed_set.SpeedSet.{SpeedSet}
-use Rattle.link.specs.declared.speed_set.SetFound.{SetFound}
-use Rattle.link.specs.declared.speed_set.SetFound.TheVariants.{Found, Missing}
 use Rattle.link.specs.Train.{top_speed, type_number}
 use Rattle.link.specs.Condition.{applies}
 use Rattle.link.specs.Table.{is_present, set_at, set_for, conditions_of}
@@ -21,15 +20,15 @@ use Rattle.path_speeds.proofs.Lowered.{count_most}
 
 -- ---- the set of link n
 module _ (train : TrainParams) (sets codes : List ℕ) (values : List Float) (n : ℕ) where
-  pub none-applies : set_for (set_at sets n) train.train_type ≡ Missing → Missing ≡ applying_set train sets codes values n
+  pub none-applies : set_for (set_at sets n) train.train_type ≡ None → None ≡ applying_set train sets codes values n
   unfolding applying_set if_applies
   none-applies e = rw e
 
-  module _ (s : SpeedSet) (e : set_for (set_at sets n) train.train_type ≡ Found s) where
+  module _ (s : SpeedSet) (e : set_for (set_at sets n) train.train_type ≡ Some s) where
     pub few-conditions : few_conditions (set_for (set_at sets n) train.train_type) ≡ true → s.params_count ≤ 64
     few-conditions f = leb-true s.params_count 64 (sym (ap few_conditions e) ∙ f)
 
-    pub if-applies : (yes? : Bool) → applies train (conditions_of codes values s) ≡ yes? → cond yes? (Found s) Missing ≡ applying_set train sets codes values n
+    pub if-applies : (yes? : Bool) → applies train (conditions_of codes values s) ≡ yes? → cond yes? (Some s) None ≡ applying_set train sets codes values n
     unfolding applying_set if_applies
     if-applies yes? a = rw (e, a)
 
@@ -39,7 +38,7 @@ module _ (train : TrainParams) (q : SpeedSets) (n : ℕ) where
   unfolding few_at
   few-at e = e
 
-  module _ (f : SetFound) (e : f ≡ set_of train q n) where
+  module _ (f : Option SpeedSet) (e : f ≡ set_of train q n) where
     pub laying-by : (base length : Float) → laying_at train length q base n ≡ laying (top_speed train) base length q.limits f
     unfolding laying_at
     laying-by base length = rw e
@@ -53,35 +52,35 @@ module _ (train : TrainParams) (q : SpeedSets) (n : ℕ) where
     finite-by base length = rw e
 
 -- a missing set lays nothing
-pub laying-none : (top base length : Float) (limits : List Float) → laying top base length limits Missing ≡ []
+pub laying-none : (top base length : Float) (limits : List Float) → laying top base length limits None ≡ []
 unfolding lowering entering
 laying-none top base length limits = refl
 
-pub count_none : (top : Float) (limits : List Float) → count_laid top limits Missing ≡ 0
+pub count_none : (top : Float) (limits : List Float) → count_laid top limits None ≡ 0
 unfolding count_laid
 count_none top limits = refl
 
-pub finite-none : (top base length : Float) (limits : List Float) → limits_finite top base length limits Missing ≡ true
+pub finite-none : (top base length : Float) (limits : List Float) → limits_finite top base length limits None ≡ true
 unfolding limits_finite
 finite-none top base length limits = refl
 
 -- ---- how many limits a set has is an entry of a column of u32
-abbrev limits_in : SetFound → ℕ
-limits_in Missing = 0
-limits_in (Found s) = s.limits_count
+abbrev limits_in : Option SpeedSet → ℕ
+limits_in None = 0
+limits_in (Some s) = s.limits_count
 
-either : (bound : ℕ) (b : Bool) (f g : SetFound) → limits_in f < bound → limits_in g < bound → limits_in (cond b f g) < bound
+either : (bound : ℕ) (b : Bool) (f g : Option SpeedSet) → limits_in f < bound → limits_in g < bound → limits_in (cond b f g) < bound
 either bound true f g h k = h
 either bound false f g h k = k
 
-if-small : (train : TrainParams) (codes : List ℕ) (values : List Float) (bound : ℕ) (f : SetFound) → 0 < bound → limits_in f < bound → limits_in (if_applies train codes values f) < bound
+if-small : (train : TrainParams) (codes : List ℕ) (values : List Float) (bound : ℕ) (f : Option SpeedSet) → 0 < bound → limits_in f < bound → limits_in (if_applies train codes values f) < bound
 unfolding if_applies
-if-small train codes values bound Missing z h = z
-if-small train codes values bound (Found s) z h = either bound (applies train (conditions_of codes values s)) (Found s) Missing h z
+if-small train codes values bound None z h = z
+if-small train codes values bound (Some s) z h = either bound (applies train (conditions_of codes values s)) (Some s) None h z
 
-laid-most : (top : Float) (limits : List Float) (f : SetFound) → count_laid top limits f ≤ limits_in f
-laid-most top limits Missing = omega (arith, count_none top limits)
-laid-most top limits (Found s) = count_most top limits s
+laid-most : (top : Float) (limits : List Float) (f : Option SpeedSet) → count_laid top limits f ≤ limits_in f
+laid-most top limits None = omega (arith, count_none top limits)
+laid-most top limits (Some s) = count_most top limits s
 
 pub count_small : (train : TrainParams) (q : SpeedSets) (n : ℕ) → ((k : ℕ) → Fits w32 (get_or q.places k 0)) → count_at train q n < 2 ^ 32
 unfolding applying_set set_for set_at
@@ -89,5 +88,5 @@ count_small train q n known =
     let set = set_at q.places n in
     let typed = suc (type_number train.train_type) in
     let f = set_of train q n in
-    let small = if-small train q.codes q.values (2 ^ 32) (set_for set train.train_type) (omega arith) (either (2 ^ 32) (is_present (set 0)) (Found (set 0)) (cond (is_present (set typed)) (Found (set typed)) Missing) (known _).fits (either (2 ^ 32) (is_present (set typed)) (Found (set typed)) Missing (known _).fits (omega arith))) in
+    let small = if-small train q.codes q.values (2 ^ 32) (set_for set train.train_type) (omega arith) (either (2 ^ 32) (is_present (set 0)) (Some (set 0)) (cond (is_present (set typed)) (Some (set typed)) None) (known _).fits (either (2 ^ 32) (is_present (set typed)) (Some (set typed)) None (known _).fits (omega arith))) in
     omega (arith, count_by train q n f refl, laid-most (top_speed train) q.limits f, small)

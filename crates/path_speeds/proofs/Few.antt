@@ -1,13 +1,12 @@
 -- Links that question 6 has passed have few conditions in the set for a train.
+use Rattle.std.specs.Prelude.{Option, Some, None}
 use Prim.Native.Nat.{ℕ}
 use mathlib.Core.Path.{◌≡◌, refl, ap, ◌∙◌}
 use mathlib.Core.Bool.{Bool, true, ◌&&◌}
 use mathlib.Core.List.{List, [], ◌∷◌, map}
 use borrow.Author.Tests.{le-leb}
 use Rattle.link.specs.declared.train_params.TrainParams.{TrainParams}
-use Rattle.link.specs.declared.speed_set.SetFound.{SetFound}
-use Rattle.link.specs.declared.speed_set.SetFound.TheVariants.{Found, Missing}
-use Rattle.link.specs.declared.network.Judged.TheVariants.{Yes}
+use Rattle.link.specs.declared.speed_set.SpeedSet.{SpeedSet}
 use Rattle.link.specs.Lists.{every}
 use Rattle.link.specs.Table.{LinkTable, set_at, set_for}
 use Rattle.link.specs.Questions.{well_formed, question6}
@@ -17,9 +16,9 @@ use Rattle.path.specs.Records.{number_of}
 use Rattle.path_speeds.specs.Limits.{few_conditions, sets_of, few_at, point_few}
 
 module _ (train : TrainParams) (t : LinkTable) where
-  few-of : (n : ℕ) → well_formed t n ≡ true → (f : SetFound) → set_for (set_at t.sets n) train.train_type ≡ f → few_conditions f ≡ true
-  few-of n e Missing h = refl
-  few-of n e (Found s) h = le-leb s.params_count 64 (few-conditions t.codes t.values t.limits s (set-formed t n train.train_type s e h))
+  few-of : (n : ℕ) → well_formed t n ≡ true → (f : Option SpeedSet) → set_for (set_at t.sets n) train.train_type ≡ f → few_conditions f ≡ true
+  few-of n e None h = refl
+  few-of n e (Some s) h = le-leb s.params_count 64 (few-conditions t.codes t.values t.limits s (set-formed t n train.train_type s e h))
 
   formed-few : (n : ℕ) → well_formed t n ≡ true → few_at train (sets_of t) n ≡ true
   unfolding few_at
@@ -39,5 +38,5 @@ module _ (train : TrainParams) (t : LinkTable) where
   points-are [] = refl
   points-are (p ∷ ps) = ap (λ (b : Bool). few_at train (sets_of t) (number_of p) && b) (points-are ps)
 
-  pub points-few : (ps : List LinkPoint) → question6 t (map number_of ps) ≡ Yes → every (point_few train (sets_of t)) ps ≡ true
+  pub points-few : (ps : List LinkPoint) → question6 t (map number_of ps) ≡ None → every (point_few train (sets_of t)) ps ≡ true
   points-few ps e = points-are ps ∙ all-few (map number_of ps) (all-formed t (map number_of ps) e)

@@ -1,4 +1,5 @@
 -- The limits below the top speed, one limit more at a time, how many they are, and what laying them makes of the points' count.
+use Rattle.std.specs.Prelude.{Option, Some, None}
 use Prim.Native.Nat.{ℕ, suc, ◌+◌, ◌-◌, ◌*◌, ◌≤◌, ◌<◌}
 use native.Mathlib.Omega.{arith}
 use mathlib.Core.Path.{◌≡◌, refl, sym, ap, ◌∙◌}
@@ -10,8 +11,6 @@ use Rattle.speed.specs.Points.{Point}
 use Rattle.speed.specs.Insert.{insert_speed}
 use Rattle.speed_laws.proofs.Kept.{count-insert, insert-some}
 use Rattle.link.specs.declared.speed_set.SpeedSet.{SpeedSet}
-use Rattle.link.specs.declared.speed_set.SetFound.{SetFound}
-use Rattle.link.specs.declared.speed_set.SetFound.TheVariants.{Found, Missing}
 use Rattle.link.specs.Lists.{every, up_from}
 use Rattle.link.specs.Table.{Limit, limit_at, limits_of}
 use Rattle.link.proofs.Loops.{length-range, whole-range, range-more, range_none, map_range}
@@ -56,17 +55,17 @@ module _ (top : Float) where
   length-lowering [] = omega arith
   length-lowering (l ∷ ls) = omega (arith, at_most_one (lowers top l) l (lowering top ls), length-lowering ls)
 
-  pub length-laying : (base long : Float) (limits : List Float) (f : SetFound) → length (laying top base long limits f) ≡ count_laid top limits f
+  pub length-laying : (base long : Float) (limits : List Float) (f : Option SpeedSet) → length (laying top base long limits f) ≡ count_laid top limits f
   unfolding entering count_laid lowering
-  length-laying base long limits Missing = refl
-  length-laying base long limits (Found s) = length-placed base (tail_of long s) (limits_of limits s)
+  length-laying base long limits None = refl
+  length-laying base long limits (Some s) = length-placed base (tail_of long s) (limits_of limits s)
 
   module _ (limits : List Float) (s : SpeedSet) where
-    pub count-whole : length (lowering top (up_from (limit_at limits) s.limits_first (limits_end s - s.limits_first))) ≡ count_laid top limits (Found s)
+    pub count-whole : length (lowering top (up_from (limit_at limits) s.limits_first (limits_end s - s.limits_first))) ≡ count_laid top limits (Some s)
     unfolding count_laid
     count-whole = ap (λ (ls : List Limit). length (lowering top ls)) (whole-range (limit_at limits) s.limits_first s.limits_count)
 
-    pub count_most : count_laid top limits (Found s) ≤ s.limits_count
+    pub count_most : count_laid top limits (Some s) ≤ s.limits_count
     unfolding count_laid
     count_most = omega (arith, length-lowering (limits_of limits s), length-range (limit_at limits) s.limits_first s.limits_count)
 
@@ -91,17 +90,17 @@ module _ (top base tail : Float) (limits : List Float) (end i : ℕ) where
 
 -- those of a whole set, which has this tail
 module _ (top base tail long : Float) (limits : List Float) (s : SpeedSet) (e : tail ≡ tail_of long s) where
-  pub lay-whole : to_lay top base tail limits (limits_end s) s.limits_first ≡ laying top base long limits (Found s)
+  pub lay-whole : to_lay top base tail limits (limits_end s) s.limits_first ≡ laying top base long limits (Some s)
   unfolding entering
   lay-whole =
       ap (lowering top) (whole-range (placed_at base tail limits) s.limits_first s.limits_count)
       ∙ ap (lowering top) (sym (map_range (placed base tail) (limit_at limits) s.limits_first s.limits_count))
       ∙ ap (λ (t : Float). lowering top (map (placed base t) (limits_of limits s))) e
 
-  pub length_whole : length (to_lay top base tail limits (limits_end s) s.limits_first) ≡ count_laid top limits (Found s)
-  length_whole = ap length lay-whole ∙ length-laying top base long limits (Found s)
+  pub length_whole : length (to_lay top base tail limits (limits_end s) s.limits_first) ≡ count_laid top limits (Some s)
+  length_whole = ap length lay-whole ∙ length-laying top base long limits (Some s)
 
-  pub finite-whole : every (laid_finite top base tail) (up_from (limit_at limits) s.limits_first (limits_end s - s.limits_first)) ≡ limits_finite top base long limits (Found s)
+  pub finite-whole : every (laid_finite top base tail) (up_from (limit_at limits) s.limits_first (limits_end s - s.limits_first)) ≡ limits_finite top base long limits (Some s)
   unfolding limits_finite
   finite-whole =
       ap (every (laid_finite top base tail)) (whole-range (limit_at limits) s.limits_first s.limits_count)

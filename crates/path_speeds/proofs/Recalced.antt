@@ -1,4 +1,5 @@
 -- `recalc_speeds`: its questions, refused, and done.
+use Rattle.std.specs.Prelude.{None}
 use Prim.Native.Nat.{ℕ, ◌+◌, ◌-◌, ◌*◌, ◌/◌, ◌≤◌, ◌<◌, ◌^◌}
 use native.Mathlib.Omega.{arith}
 use mathlib.Core.Path.{◌≡◌, refl, sym, ap, ap₂, ◌∙◌}
@@ -16,7 +17,6 @@ use Rattle.column.proofs.Bridge.{length-flat}
 use Rattle.speed.specs.Column.{pair, points, Leaves}
 use Rattle.speed.proofs.PointColumn.{pair-lawful, length-points, leaves_at}
 use Rattle.link.specs.declared.train_params.TrainParams.{TrainParams}
-use Rattle.link.specs.declared.network.Judged.TheVariants.{Yes}
 use Rattle.link.specs.Lists.{every, up_from, first_no}
 use Rattle.link.specs.Train.{length_of}
 use Rattle.link.specs.Table.{LinkTable}
@@ -102,13 +102,13 @@ module _ (train : TrainParams) (t : LinkTable) (p : PathTpc) (c : Columns) where
   own = path_answer (train_finite train) p c
 
   abbrev of_links : Answer
-  of_links = links_answer t train.train_type Yes (map number_of present)
+  of_links = links_answer t train.train_type None (map number_of present)
 
   abbrev of_limits : Answer
   of_limits = limits_answer train (length_of train) (sets_of t) present (length c.speeds)
 
   few-links : of_links.number ≡ 0 → every (point_few train (sets_of t)) present ≡ true
-  few-links h = points-few train t present (links-done t train.train_type Yes (map number_of present) h).0
+  few-links h = points-few train t present (links-done t train.train_type None (map number_of present) h).0
 
   -- r is the code's answer to questions 1 and 2
   module _ {r : Answer} (e : r ≡ own) where
@@ -123,9 +123,9 @@ module _ (train : TrainParams) (t : LinkTable) (p : PathTpc) (c : Columns) where
           (some-link p c w.0, (bounds p c w.1).0)
 
       -- s is its answer to questions 4 to 7
-      module _ {s : Answer} (f : s ≡ links_answer t train.train_type Yes (numbers true c.numbers (p.link_count - 1))) where
+      module _ {s : Answer} (f : s ≡ links_answer t train.train_type None (numbers true c.numbers (p.link_count - 1))) where
         of-links : s ≡ of_links
-        of-links = f ∙ ap (links_answer t train.train_type Yes) (sym (present-numbers p c))
+        of-links = f ∙ ap (links_answer t train.train_type None) (sym (present-numbers p c))
 
         pub recalc-links : (s.number ≡ 0 → ⊥) → recalc_answer train t p c ≡ s
         unfolding recalc_answer

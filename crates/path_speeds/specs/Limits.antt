@@ -1,5 +1,5 @@
 -- The limits that a link lays, R40 and R41: path_tpc.rs (`add_speeds`). Definitions only.
-use Rattle.std.specs.Prelude.{ℕ, Bool, true, not, ◌&&◌, ◌||◌, cond, List, [], ◌∷◌, map, eqb, leb, Float}
+use Rattle.std.specs.Prelude.{ℕ, Bool, true, not, ◌&&◌, ◌||◌, cond, List, [], ◌∷◌, map, eqb, leb, Float, Option, Some, None}
 use Rattle.std.proofs.Math.ListN as list
 use Rattle.std.specs.Float.Ieee as Ieee
 use Rattle.std.specs.Float.Ieee.Scale.{finite}
@@ -8,8 +8,6 @@ use Rattle.speed.specs.Points.{Point}
 use Rattle.speed.specs.Insert.{insert_speed}
 use Rattle.link.specs.declared.train_params.TrainParams.{TrainParams}
 use Rattle.link.specs.declared.speed_set.SpeedSet.{SpeedSet}
-use Rattle.link.specs.declared.speed_set.SetFound.{SetFound}
-use Rattle.link.specs.declared.speed_set.SetFound.TheVariants.{Found, Missing}
 use Rattle.link.specs.Lists.{every}
 use Rattle.link.specs.Train.{top_speed}
 use Rattle.link.specs.Condition.{applies}
@@ -20,19 +18,19 @@ use Rattle.path.specs.Records.{offset_of, number_of}
 -- ---- the set that applies
 
 -- the set, if its conditions hold for the train
-unfoldable pub if_applies : TrainParams → List ℕ → List Float → SetFound → SetFound
-if_applies train codes values Missing = Missing
-if_applies train codes values (Found s) = cond (applies train (conditions_of codes values s)) (Found s) Missing
+unfoldable pub if_applies : TrainParams → List ℕ → List Float → Option SpeedSet → Option SpeedSet
+if_applies train codes values None = None
+if_applies train codes values (Some s) = cond (applies train (conditions_of codes values s)) (Some s) None
 
 -- of link n
-unfoldable pub applying_set : TrainParams → List ℕ → List ℕ → List Float → ℕ → SetFound
+unfoldable pub applying_set : TrainParams → List ℕ → List ℕ → List Float → ℕ → Option SpeedSet
 unfolding if_applies
 applying_set train sets codes values n = if_applies train codes values (set_for (set_at sets n) train.train_type)
 
 -- a set has at most 64 conditions (question 6)
-abbrev pub few_conditions : SetFound → Bool
-few_conditions Missing = true
-few_conditions (Found s) = leb s.params_count 64
+abbrev pub few_conditions : Option SpeedSet → Bool
+few_conditions None = true
+few_conditions (Some s) = leb s.params_count 64
 
 -- ---- where its limits are laid
 
@@ -56,19 +54,19 @@ lowering top [] = []
 lowering top (l ∷ ls) = cons_if (lowers top l) l (lowering top ls)
 
 -- the limits of a set, base and tail added, for a train of this length
-unfoldable pub entering : Float → Float → List Float → SetFound → List Limit
-entering base length limits Missing = []
-entering base length limits (Found s) = map (placed base (tail_of length s)) (limits_of limits s)
+unfoldable pub entering : Float → Float → List Float → Option SpeedSet → List Limit
+entering base length limits None = []
+entering base length limits (Some s) = map (placed base (tail_of length s)) (limits_of limits s)
 
 -- those that are laid
-abbrev pub laying : Float → Float → Float → List Float → SetFound → List Limit
+abbrev pub laying : Float → Float → Float → List Float → Option SpeedSet → List Limit
 laying top base length limits found = lowering top (entering base length limits found)
 
 -- how many they are, wherever the link begins
-unfoldable pub count_laid : Float → List Float → SetFound → ℕ
+unfoldable pub count_laid : Float → List Float → Option SpeedSet → ℕ
 unfolding lowering
-count_laid top limits Missing = 0
-count_laid top limits (Found s) = list.length (lowering top (limits_of limits s))
+count_laid top limits None = 0
+count_laid top limits (Some s) = list.length (lowering top (limits_of limits s))
 
 -- the limits laid on the points in turn
 unfoldable pub lay_all : List Point → List Limit → List Point
@@ -83,9 +81,9 @@ placed_finite base tail l = finite (l.start ⊕ base) && (finite (l.end ⊕ base
 abbrev pub laid_finite : Float → Float → Float → Limit → Bool
 laid_finite top base tail l = not (lowers top l) || placed_finite base tail l
 
-unfoldable pub limits_finite : Float → Float → Float → List Float → SetFound → Bool
-limits_finite top base length limits Missing = true
-limits_finite top base length limits (Found s) = every (laid_finite top base (tail_of length s)) (limits_of limits s)
+unfoldable pub limits_finite : Float → Float → Float → List Float → Option SpeedSet → Bool
+limits_finite top base length limits None = true
+limits_finite top base length limits (Some s) = every (laid_finite top base (tail_of length s)) (limits_of limits s)
 
 -- ---- of link n
 
@@ -106,7 +104,7 @@ sets_of t = speed_sets t.sets t.codes t.values t.limits
 unfoldable pub few_at : TrainParams → SpeedSets → ℕ → Bool
 few_at train q n = few_conditions (set_for (set_at q.places n) train.train_type)
 
-abbrev pub set_of : TrainParams → SpeedSets → ℕ → SetFound
+abbrev pub set_of : TrainParams → SpeedSets → ℕ → Option SpeedSet
 set_of train q n = applying_set train q.places q.codes q.values n
 
 -- the applying limits of the link where it begins at base, for a train of this length

@@ -1,9 +1,8 @@
 -- `recalc_speeds`, R55 and R56: the limits of the links still present, laid anew. path_tpc.rs. Definitions only.
-use Rattle.std.specs.Prelude.{ℕ, ◌+◌, ◌*◌, ◌/◌, Float, List, [], ◌∷◌, map}
+use Rattle.std.specs.Prelude.{ℕ, ◌+◌, ◌*◌, ◌/◌, Float, List, [], ◌∷◌, map, None}
 use Rattle.std.proofs.Math.ListN as list
 use Rattle.speed.specs.Points.{Point, point}
 use Rattle.link.specs.declared.train_params.TrainParams.{TrainParams}
-use Rattle.link.specs.declared.network.Judged.TheVariants.{Yes}
 use Rattle.link.specs.Lists.{first_no}
 use Rattle.link.specs.Train.{length_of, top_speed}
 use Rattle.link.specs.Table.{LinkTable}
@@ -51,7 +50,7 @@ recalc_answer train t p c =
     let present = beginnings (path_of p c).links in
     in_turn (
     path_answer (train_finite train) p c
-    ∷ links_answer t train.train_type Yes (map number_of present)
+    ∷ links_answer t train.train_type None (map number_of present)
     ∷ limits_answer train (length_of train) (sets_of t) present (list.length c.speeds)
     ∷ [])
 

@@ -8,8 +8,6 @@ ghost use Rattle.path.specs.Sound.{total};
 ghost use Rattle.path_speeds.specs.Limits as spec;
 
 use crate::limits::{applying_set, lay_limits, limits_count, limits_finite};
-use link::network::Judged;
-use link::speed_set::SetFound;
 use link::train_params::TrainParams;
 use path::link_point::link_point_at;
 use si::{Length, Velocity};
@@ -29,7 +27,7 @@ pub fn link_finite(
     requires i_value { spec.few_at train (spec.speed_sets sets.now codes.now values.now limits.now) i ≡ true }
     ensures { result ≡ spec.finite_at train length.0 (spec.speed_sets sets.now codes.now values.now limits.now) base.0 i }
 {
-    let SetFound::Found(s) = applying_set(sets, codes, values, i, train) else {
+    let Some(s) = applying_set(sets, codes, values, i, train) else {
         return true;
     };
     limits_finite(limits, s, base, length, Velocity(train.speed_max.0))
@@ -48,7 +46,7 @@ pub fn link_limit_count(
     requires i_value { spec.few_at train (spec.speed_sets sets.now codes.now values.now limits.now) i ≡ true }
     ensures { result ≡ spec.count_at train (spec.speed_sets sets.now codes.now values.now limits.now) i }
 {
-    let SetFound::Found(s) = applying_set(sets, codes, values, i, train) else {
+    let Some(s) = applying_set(sets, codes, values, i, train) else {
         return 0;
     };
     limits_count(limits, s, Velocity(train.speed_max.0))
@@ -75,7 +73,7 @@ pub fn add_speeds(
     ensures { Leaves col.new result
         (spec.lay_all (points n col.old) (spec.laying_at train length.0 (spec.speed_sets sets.now codes.now values.now limits.now) base.0 i)) }
 {
-    let SetFound::Found(s) = applying_set(sets, codes, values, i, train) else {
+    let Some(s) = applying_set(sets, codes, values, i, train) else {
         return n;
     };
     lay_limits(col, n, limits, s, base, length, Velocity(train.speed_max.0))
@@ -92,7 +90,7 @@ pub fn points_finite(
     limits: &[f64],
     length: Length,
     train: TrainParams,
-) -> Judged
+) -> Option<usize>
     requires { every (spec.point_few train (spec.speed_sets sets.now codes.now values.now limits.now))
         (up_from (point_at offsets.now numbers.now) 0 count) ≡ true }
     ensures { result ≡ first_no
@@ -106,11 +104,11 @@ pub fn points_finite(
         let i = p.link_idx as usize;
         let base = Length(p.offset.0);
         if !link_finite(sets, codes, values, limits, i, base, length, train) {
-            return Judged::NoAt(k);
+            return Some(k);
         }
         k += 1;
     }
-    Judged::Yes
+    None
 }
 
 // How many limits the first `count` link points lay.

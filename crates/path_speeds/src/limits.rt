@@ -1,13 +1,12 @@
 // The limits of a set: which apply, where they are laid, and whether the sums for that are finite.
-ghost use Rattle.std.specs.Prelude.{◌≡◌, true, ◌+◌, ◌*◌, ◌≤◌, ◌<◌, ◌^◌};
+ghost use Rattle.std.specs.Prelude.{Some, ◌≡◌, true, ◌+◌, ◌*◌, ◌≤◌, ◌<◌, ◌^◌};
 ghost use Rattle.std.proofs.Math.ListN as list;
 ghost use Rattle.speed.specs.Column.{points, Holds, Leaves};
-ghost use Rattle.link.specs.declared.speed_set.SetFound.TheVariants.{Found};
 ghost use Rattle.link.specs.Table.{limit_of, set_at, set_for};
 ghost use Rattle.path_speeds.specs.Limits as spec;
 
 use link::cat_power::speed_limit_at;
-use link::speed_set::{SetFound, SpeedSet, set_for};
+use link::speed_set::{SpeedSet, set_for};
 use link::train_params::{TrainParams, speed_set_applies};
 use si::{Length, Velocity};
 use speed::insert_speed::insert_speed;
@@ -20,21 +19,21 @@ pub fn applying_set(
     values: &[f64],
     i: usize,
     train: TrainParams,
-) -> SetFound
+) -> Option<SpeedSet>
     requires i_bound { i < 2 ^ 40 }
     requires train_type_value { spec.few_conditions (set_for (set_at sets.now i) train.train_type) ≡ true }
     ensures { result ≡ spec.applying_set train sets.now codes.now values.now i }
 {
     let kind = train.train_type;
-    let SetFound::Found(s) = set_for(sets, i, kind) else {
-        return SetFound::Missing;
+    let Some(s) = set_for(sets, i, kind) else {
+        return None;
     };
     let first = s.params_first as usize;
     let count = s.params_count as usize;
     if speed_set_applies(codes, values, first, count, train) {
-        return SetFound::Found(s);
+        return Some(s);
     }
-    SetFound::Missing
+    None
 }
 
 // What the set's limits hold on behind their end: nothing for a head-end set, else the train's length.
@@ -78,7 +77,7 @@ pub fn limits_finite(
     length: Length,
     top: Velocity,
 ) -> bool
-    ensures { result ≡ spec.limits_finite top.0 base.0 length.0 limits.now (Found s) }
+    ensures { result ≡ spec.limits_finite top.0 base.0 length.0 limits.now (Some s) }
 {
     let tail = tail_of(s, length);
     let first = s.limits_first as usize;
@@ -95,7 +94,7 @@ pub fn limits_finite(
 
 // How many limits of a set are below the top speed.
 pub fn limits_count(limits: &[f64], s: SpeedSet, top: Velocity) -> usize
-    ensures { result ≡ spec.count_laid top.0 limits.now (Found s) }
+    ensures { result ≡ spec.count_laid top.0 limits.now (Some s) }
 {
     let first = s.limits_first as usize;
     let end = first + (s.limits_count as usize);
@@ -121,10 +120,10 @@ pub fn lay_limits(
     top: Velocity,
 ) -> usize
     requires n_nonzero { 0 < n }
-    requires s_bound { 2 * (n + 2 * spec.count_laid top.0 limits.now (Found s)) ≤ list.length col.old }
+    requires s_bound { 2 * (n + 2 * spec.count_laid top.0 limits.now (Some s)) ≤ list.length col.old }
     requires holds { Holds col.old (points n col.old) }
     ensures { Leaves col.new result
-        (spec.lay_all (points n col.old) (spec.laying top.0 base.0 length.0 limits.now (Found s))) }
+        (spec.lay_all (points n col.old) (spec.laying top.0 base.0 length.0 limits.now (Some s))) }
 {
     let tail = tail_of(s, length);
     let first = s.limits_first as usize;

@@ -13,7 +13,6 @@ ghost use Rattle.path_speeds.specs.Recalc as spec;
 use crate::add_speeds::{lay_links, points_count, points_finite};
 use column::Two;
 use column::floats::put_two;
-use link::network::Judged;
 use link::train_params::TrainParams;
 use path::answer::{asked, asked_each, path_answer};
 use path::finite::train_finite;
@@ -102,7 +101,7 @@ fn recalc_answer(
         numbers,
         true,
         count,
-        Judged::Yes,
+        None,
         links,
         lengths,
         sets,

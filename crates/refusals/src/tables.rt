@@ -2,7 +2,6 @@
 use crate::columns;
 use crate::columns::{cut_wholes, lent_reals, lent_wholes};
 use crate::fields::begins;
-use link::network::Judged;
 use link::questions;
 use route::fields::{bytes_at, is_word};
 use show::{count, say};
@@ -28,20 +27,20 @@ fn ask(
     districts: &[u32],
 ) {
     let n = list.len();
-    if let Judged::NoAt(p) = questions::question4(list, false, n, links, lengths, sets) {
+    if let Some(p) = questions::question4(list, false, n, links, lengths, sets) {
         return refused(4, p);
     }
-    if let Judged::NoAt(p) = questions::question5(list, links, false, 0) {
+    if let Some(p) = questions::question5(list, links, false, 0) {
         return refused(5, p);
     }
-    if let Judged::NoAt(p) = questions::question6(
+    if let Some(p) = questions::question6(
         list, false, n, links, lengths, sets, elevs, headings, limits, codes, values, powers,
         districts,
     ) {
         return refused(6, p);
     }
     let t = link::train_params::TrainType::Freight;
-    if let Judged::NoAt(p) = questions::question7(list, false, n, sets, t) {
+    if let Some(p) = questions::question7(list, false, n, sets, t) {
         return refused(7, p);
     }
     say(b" done")

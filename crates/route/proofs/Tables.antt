@@ -1,4 +1,5 @@
 -- The tables' codes are those by which the link table and the train are asked, and no word of a table hides another.
+use Rattle.std.specs.Prelude.{Some}
 use Prim.Native.Nat.{ℕ, suc}
 use mathlib.Core.Path.{◌≡◌, refl}
 use mathlib.Core.Bool.{Bool}
@@ -7,7 +8,6 @@ use lib.Ieee.{Float}
 use Rattle.link.specs.Condition.{by_code, param_of}
 use Rattle.link.specs.Train.{type_number}
 use Rattle.link.specs.declared.speed_param.SpeedParam.TheVariants.{MassTotal, MassPerBrake, AxleCount}
-use Rattle.link.specs.declared.speed_param.ParamFound.TheVariants.{Known}
 use Rattle.link.specs.declared.train_params.TrainType.{TrainType}
 use Rattle.link.specs.declared.train_params.TrainType.TheVariants.{None, Freight, Passenger, Intermodal, HighSpeedPassenger, TiltTrain, Commuter}
 use Rattle.route.specs.Codes.{Entry, bytes, code_of, types, places, tails, figures, comparisons, directions, keywords}
@@ -40,15 +40,15 @@ module _ (equal above below not_below not_above : Bool) where
 
 -- ---- figures of the train, R25
 module _ (v : Float) where
-  mass-asked : param_of (code_of 0 figures (bytes "mass")) v ≡ Known (MassTotal v)
+  mass-asked : param_of (code_of 0 figures (bytes "mass")) v ≡ Some (MassTotal v)
   unfolding code_of param_of
   mass-asked = refl
 
-  brake-asked : param_of (code_of 0 figures (bytes "brake")) v ≡ Known (MassPerBrake v)
+  brake-asked : param_of (code_of 0 figures (bytes "brake")) v ≡ Some (MassPerBrake v)
   unfolding code_of param_of
   brake-asked = refl
 
-  axles-asked : param_of (code_of 0 figures (bytes "axles")) v ≡ Known (AxleCount v)
+  axles-asked : param_of (code_of 0 figures (bytes "axles")) v ≡ Some (AxleCount v)
   unfolding code_of param_of
   axles-asked = refl
 

@@ -1,12 +1,10 @@
 -- What a set, a link and links lay, one limit or one link at a time.
-use Rattle.std.proofs.Common.{◌≡◌, ℕ, ◌+◌, ◌-◌, ◌<◌, ◌≤◌, Bool, true, false, cond, List, [], ◌∷◌, ◌++◌, map, sym, refl, ap, ◌∙◌, le-leb}
+use Rattle.std.proofs.Common.{◌≡◌, ℕ, ◌+◌, ◌-◌, ◌<◌, ◌≤◌, Bool, true, false, cond, List, [], ◌∷◌, ◌++◌, map, sym, refl, ap, ◌∙◌, le-leb, Option, Some, None}
 use mathlib.Core.List.{map-map}
 use lib.Ieee.{Float}
 use borrow.Author.Tests.{lt-leb}
 use Rattle.link.specs.declared.train_params.TrainParams.{TrainParams}
 use Rattle.link.specs.declared.speed_set.SpeedSet.{SpeedSet}
-use Rattle.link.specs.declared.speed_set.SetFound.{SetFound}
-use Rattle.link.specs.declared.speed_set.SetFound.TheVariants.{Found, Missing}
 use Rattle.link.specs.Lists.{up_from}
 use Rattle.link.specs.Train.{length_of, top_speed}
 use Rattle.link.specs.Table.{Limit, limit_at, limits_of, set_at, set_for}
@@ -20,15 +18,15 @@ use Rattle.view.specs.History.{Laid, limit_in, laid_of, set_lays, set_taken, poi
 
 -- ---- the set
 module _ (train : TrainParams) (sets codes : List ℕ) (values : List Float) (i : ℕ) where
-  taken : (few : Bool) → few_conditions (set_for (set_at sets i) train.train_type) ≡ few → cond few (applying_set train sets codes values i) Missing ≡ set_taken train sets codes values i
+  taken : (few : Bool) → few_conditions (set_for (set_at sets i) train.train_type) ≡ few → cond few (applying_set train sets codes values i) None ≡ set_taken train sets codes values i
   unfolding set_taken
-  taken few e = sym (ap (λ (b : Bool). cond b (applying_set train sets codes values i) Missing) e)
+  taken few e = sym (ap (λ (b : Bool). cond b (applying_set train sets codes values i) None) e)
 
-  pub taken_none : set_for (set_at sets i) train.train_type ≡ Missing → Missing ≡ set_taken train sets codes values i
+  pub taken_none : set_for (set_at sets i) train.train_type ≡ None → None ≡ set_taken train sets codes values i
   taken_none e = none-applies train sets codes values i e ∙ taken true (ap few_conditions e)
 
-  module _ (s : SpeedSet) (e : set_for (set_at sets i) train.train_type ≡ Found s) where
-    pub taken-many : 64 < s.params_count → Missing ≡ set_taken train sets codes values i
+  module _ (s : SpeedSet) (e : set_for (set_at sets i) train.train_type ≡ Some s) where
+    pub taken-many : 64 < s.params_count → None ≡ set_taken train sets codes values i
     taken-many h = taken false (ap few_conditions e ∙ lt-leb s.params_count 64 h)
 
     pub few-taken : s.params_count ≤ 64 → few_conditions (set_for (set_at sets i) train.train_type) ≡ true
@@ -57,7 +55,7 @@ module _ (top base tail : Float) (number : ℕ) (limits : List Float) (end i : �
 
 -- those of a whole set, which has this tail
 pub left-whole : (top base tail length : Float) (number : ℕ) (limits : List Float) (s : SpeedSet) → tail ≡ tail_of length s
-    → limits_left top base tail number limits (limits_end s) s.limits_first ≡ set_lays top base length number limits (Found s)
+    → limits_left top base tail number limits (limits_end s) s.limits_first ≡ set_lays top base length number limits (Some s)
 unfolding set_lays
 left-whole top base tail length number limits s e =
     ap (λ (ls : List Limit). map (laid_of base tail number) (lowering top ls)) (whole-range (limit_at limits) s.limits_first s.limits_count)
@@ -74,21 +72,21 @@ lower-placed top base tail (l ∷ ls) = go (lowers top l) (lower-placed top base
     go true e = ap (λ (ks : List Limit). placed base tail l ∷ ks) e
     go false e = e
 
-set-laying : (top base length : Float) (number : ℕ) (limits : List Float) (f : SetFound) → map limit_in (set_lays top base length number limits f) ≡ laying top base length limits f
+set-laying : (top base length : Float) (number : ℕ) (limits : List Float) (f : Option SpeedSet) → map limit_in (set_lays top base length number limits f) ≡ laying top base length limits f
 unfolding set_lays entering lowering
-set-laying top base length number limits Missing = refl
-set-laying top base length number limits (Found s) =
+set-laying top base length number limits None = refl
+set-laying top base length number limits (Some s) =
     map-map limit_in (laid_of base (tail_of length s) number) (lowering top (limits_of limits s)) ∙ sym (lower-placed top base (tail_of length s) (limits_of limits s))
 
 -- ---- links
 module _ (train : TrainParams) (q : SpeedSets) where
   -- by the set that is taken
-  pub lays-by : (p : LinkPoint) (f : SetFound) → f ≡ set_taken train q.places q.codes q.values (number_of p)
+  pub lays-by : (p : LinkPoint) (f : Option SpeedSet) → f ≡ set_taken train q.places q.codes q.values (number_of p)
       → set_lays (top_speed train) (offset_of p) (length_of train) (number_of p) q.limits f ≡ point_lays train q p
   unfolding point_lays
   lays-by p f e = ap (set_lays (top_speed train) (offset_of p) (length_of train) (number_of p) q.limits) e
 
-  pub lays-none : (p : LinkPoint) (f : SetFound) → f ≡ set_taken train q.places q.codes q.values (number_of p) → f ≡ Missing → [] ≡ point_lays train q p
+  pub lays-none : (p : LinkPoint) (f : Option SpeedSet) → f ≡ set_taken train q.places q.codes q.values (number_of p) → f ≡ None → [] ≡ point_lays train q p
   unfolding set_lays
   lays-none p f e m = ap (set_lays (top_speed train) (offset_of p) (length_of train) (number_of p) q.limits) (sym m) ∙ lays-by p f e
 

@@ -1,5 +1,5 @@
 -- The limits laid since `new`, as the history keeps them: one record of three and one of two for each. Definitions only.
-use Rattle.std.specs.Prelude.{ℕ, ◌-◌, ◌/◌, min, cond, List, [], ◌∷◌, ◌++◌, map, length, take, pos, Float}
+use Rattle.std.specs.Prelude.{ℕ, ◌-◌, ◌/◌, min, cond, List, [], ◌∷◌, ◌++◌, map, length, take, pos, Float, Option, Some, None}
 use Rattle.std.specs.Float.Ieee as Ieee
 use Rattle.std.specs.Float.{binary64}
 use Rattle.ieee.specs.Number.{+0}
@@ -7,8 +7,7 @@ use Rattle.column.specs.declared.Two.{Two}
 use Rattle.column.specs.declared.Three.{Three}
 use Rattle.column.specs.Records.{record_at, three, two}
 use Rattle.link.specs.declared.train_params.TrainParams.{TrainParams}
-use Rattle.link.specs.declared.speed_set.SetFound.{SetFound}
-use Rattle.link.specs.declared.speed_set.SetFound.TheVariants.{Found, Missing}
+use Rattle.link.specs.declared.speed_set.SpeedSet.{SpeedSet}
 use Rattle.link.specs.Lists.{up_from}
 use Rattle.link.specs.Train.{length_of, top_speed}
 use Rattle.link.specs.Table.{Limit, set_at, set_for, limits_of}
@@ -60,13 +59,13 @@ abbrev pub laid_of : Float → Float → ℕ → Limit → Laid
 laid_of base tail number l = laid_as number (placed base tail l) (placed base +0 l)
 
 -- those of a set that are below the top speed, for a train of this length
-unfoldable pub set_lays : Float → Float → Float → ℕ → List Float → SetFound → List Laid
-set_lays top base length number limits Missing = []
-set_lays top base length number limits (Found s) = map (laid_of base (tail_of length s) number) (lowering top (limits_of limits s))
+unfoldable pub set_lays : Float → Float → Float → ℕ → List Float → Option SpeedSet → List Laid
+set_lays top base length number limits None = []
+set_lays top base length number limits (Some s) = map (laid_of base (tail_of length s) number) (lowering top (limits_of limits s))
 
 -- the set that link i takes them from: none where it has more than 64 conditions
-unfoldable pub set_taken : TrainParams → List ℕ → List ℕ → List Float → ℕ → SetFound
-set_taken train sets codes values i = cond (few_conditions (set_for (set_at sets i) train.train_type)) (applying_set train sets codes values i) Missing
+unfoldable pub set_taken : TrainParams → List ℕ → List ℕ → List Float → ℕ → Option SpeedSet
+set_taken train sets codes values i = cond (few_conditions (set_for (set_at sets i) train.train_type)) (applying_set train sets codes values i) None
 
 -- those of a link point's link
 unfoldable pub point_lays : TrainParams → SpeedSets → LinkPoint → List Laid

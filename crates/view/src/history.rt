@@ -1,6 +1,5 @@
 // What was joined since `new`, dropped links too: limits laid, link borders and heights.
-ghost use Rattle.std.specs.Prelude.{◌≡◌, min, [], ◌∷◌};
-ghost use Rattle.link.specs.declared.speed_set.SetFound.TheVariants.{Found};
+ghost use Rattle.std.specs.Prelude.{Some, ◌≡◌, min, [], ◌∷◌};
 ghost use Rattle.link.specs.Train.{length_of, top_speed};
 ghost use Rattle.link.specs.Table.{limit_of};
 ghost use Rattle.path_speeds.specs.Limits.{speed_sets};
@@ -8,7 +7,7 @@ ghost use Rattle.view.specs.History as spec;
 
 use column::{Three, Two};
 use link::cat_power::speed_limit_at;
-use link::speed_set::{SetFound, SpeedSet, set_for};
+use link::speed_set::{SpeedSet, set_for};
 use link::train_params::TrainParams;
 use path::link_point::{LinkPoint, link_point_at};
 use path_speeds::limits::{applying_set, placed, tail_of};
@@ -92,7 +91,7 @@ fn add_limits(
 ) -> usize
     ensures { spec.laid_up_to boards.new tags.new result
         ≡ spec.with_more boards.old tags.old n
-        (spec.set_lays (top_speed train) base.0 (length_of train) number limits.now (Found s)) }
+        (spec.set_lays (top_speed train) base.0 (length_of train) number limits.now (Some s)) }
 {
     let tail = tail_of(s, Length(train.length.0));
     let first = s.limits_first as usize;
@@ -110,16 +109,16 @@ fn add_limits(
 }
 
 // The set that the limits of link i come from; none where it has more than 64 conditions or they do not hold.
-fn applying(sets: &[u32], codes: &[u32], values: &[f64], i: u32, train: TrainParams) -> SetFound
+fn applying(sets: &[u32], codes: &[u32], values: &[f64], i: u32, train: TrainParams) -> Option<SpeedSet>
     ensures { result ≡ spec.set_taken train sets.now codes.now values.now i }
 {
     let number = i as usize;
     let kind = train.train_type;
-    let SetFound::Found(s) = set_for(sets, number, kind) else {
-        return SetFound::Missing;
+    let Some(s) = set_for(sets, number, kind) else {
+        return None;
     };
     if 64 < s.params_count {
-        return SetFound::Missing;
+        return None;
     }
     applying_set(sets, codes, values, number, train)
 }
@@ -141,7 +140,7 @@ fn add_link(
 {
     let number = p.link_idx;
     let found = applying(sets, codes, values, number, train);
-    let SetFound::Found(s) = found else {
+    let Some(s) = found else {
         return fewer(n, room(&*boards, &*tags));
     };
     add_limits(

@@ -29,7 +29,7 @@ pub loop-k-preserved : goal.loop-k-preserved
 loop-k-preserved c =
     let a = c.args in
     let k = c.loop-k.k in
-    sym (first-pass (number_at a.points a.list.now) (has_set a.sets.now a.t) k a.count c.loop-k-test.true (set-some a.sets.now a.t c.set_for.ensures c.number_at-n.ensures c.in-Found.is)) ∙ c.loop-k.invariant
+    sym (first-pass (number_at a.points a.list.now) (has_set a.sets.now a.t) k a.count c.loop-k-test.true (set-some a.sets.now a.t c.set_for.ensures c.number_at-n.ensures c.in-Some.is)) ∙ c.loop-k.invariant
 
 pub returns : goal.returns
 returns c =

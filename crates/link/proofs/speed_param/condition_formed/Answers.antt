@@ -9,10 +9,10 @@ pub returns-in_default : goal.returns-in_default
 returns-in_default c = let here = condition_at c.args.codes.now c.args.values.now c.args.i in grind (arith, common_steps, kind-unknown here)
 
 pub returns-then-code-lt1 : goal.returns-then-code-lt1
-returns-then-code-lt1 c = let here = condition_at c.args.codes.now c.args.values.now c.args.i in grind (arith, common_steps, code-low here c.in-Known.field-0)
+returns-then-code-lt1 c = let here = condition_at c.args.codes.now c.args.values.now c.args.i in grind (arith, common_steps, code-low here c.in-Some.field-0)
 
 pub returns-then-code-gt5 : goal.returns-then-code-gt5
-returns-then-code-gt5 c = let here = condition_at c.args.codes.now c.args.values.now c.args.i in grind (arith, common_steps, code-high here c.in-Known.field-0)
+returns-then-code-gt5 c = let here = condition_at c.args.codes.now c.args.values.now c.args.i in grind (arith, common_steps, code-high here c.in-Some.field-0)
 
 pub returns : goal.returns
-returns c = let here = condition_at c.args.codes.now c.args.values.now c.args.i in grind (arith, common_steps, codes-known here c.in-Known.field-0)
+returns c = let here = condition_at c.args.codes.now c.args.values.now c.args.i in grind (arith, common_steps, codes-known here c.in-Some.field-0)

@@ -1,6 +1,6 @@
 -- `link_finite`: by the set that applies.
+use Rattle.std.specs.Prelude.{Some, None}
 use mathlib.Core.Path.{sym, ◌∙◌}
-use Rattle.link.specs.declared.speed_set.SetFound.TheVariants.{Found, Missing}
 use Rattle.link.specs.Train.{top_speed}
 use Rattle.path_speeds.specs.Limits.{speed_sets}
 use Rattle.path_speeds.proofs.Applying.{few-at, finite-by, finite-none}
@@ -15,10 +15,10 @@ pub returns-in_default : goal.returns-in_default
 returns-in_default c =
     let a = c.args in
     let q = speed_sets a.sets.now a.codes.now a.values.now a.limits.now in
-    sym (finite-by a.train q a.i Missing (sym c.in_default.is ∙ c.applying_set.ensures) a.base.0 a.length.0 ∙ finite-none (top_speed a.train) a.base.0 a.length.0 q.limits)
+    sym (finite-by a.train q a.i None (sym c.in_default.is ∙ c.applying_set.ensures) a.base.0 a.length.0 ∙ finite-none (top_speed a.train) a.base.0 a.length.0 q.limits)
 
 pub returns : goal.returns
 returns c =
     let a = c.args in
     let q = speed_sets a.sets.now a.codes.now a.values.now a.limits.now in
-    c.limits_finite.ensures ∙ sym (finite-by a.train q a.i (Found c.in-Found.s) (sym c.in-Found.is ∙ c.applying_set.ensures) a.base.0 a.length.0)
+    c.limits_finite.ensures ∙ sym (finite-by a.train q a.i (Some c.in-Some.s) (sym c.in-Some.is ∙ c.applying_set.ensures) a.base.0 a.length.0)

@@ -1,6 +1,6 @@
 -- `link_limit_count`: by the set that applies.
+use Rattle.std.specs.Prelude.{Some, None}
 use mathlib.Core.Path.{sym, ◌∙◌}
-use Rattle.link.specs.declared.speed_set.SetFound.TheVariants.{Found, Missing}
 use Rattle.link.specs.Train.{top_speed}
 use Rattle.path_speeds.specs.Limits.{speed_sets}
 use Rattle.path_speeds.proofs.Applying.{few-at, count_by, count_none}
@@ -15,10 +15,10 @@ pub returns-in_default : goal.returns-in_default
 returns-in_default c =
     let a = c.args in
     let q = speed_sets a.sets.now a.codes.now a.values.now a.limits.now in
-    sym (count_by a.train q a.i Missing (sym c.in_default.is ∙ c.applying_set.ensures) ∙ count_none (top_speed a.train) q.limits)
+    sym (count_by a.train q a.i None (sym c.in_default.is ∙ c.applying_set.ensures) ∙ count_none (top_speed a.train) q.limits)
 
 pub returns : goal.returns
 returns c =
     let a = c.args in
     let q = speed_sets a.sets.now a.codes.now a.values.now a.limits.now in
-    c.limits_count.ensures ∙ sym (count_by a.train q a.i (Found c.in-Found.s) (sym c.in-Found.is ∙ c.applying_set.ensures))
+    c.limits_count.ensures ∙ sym (count_by a.train q a.i (Some c.in-Some.s) (sym c.in-Some.is ∙ c.applying_set.ensures))

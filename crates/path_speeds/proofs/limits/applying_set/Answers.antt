@@ -15,15 +15,15 @@ returns-in_default c =
 pub speed_set_applies-requires : goal.speed_set_applies-requires
 speed_set_applies-requires c =
     let a = c.args in
-    let s = c.in-Found.s in
-    let few = few-conditions a.train a.sets.now a.codes.now a.values.now a.i s (set_is (set_at a.sets.now a.i) a.train.train_type c.set_for.ensures c.in-Found.is) c.requires.train_type_value in record { left_bound = omega arith; left_bound_2 = few }
+    let s = c.in-Some.s in
+    let few = few-conditions a.train a.sets.now a.codes.now a.values.now a.i s (set_is (set_at a.sets.now a.i) a.train.train_type c.set_for.ensures c.in-Some.is) c.requires.train_type_value in record { left_bound = omega arith; left_bound_2 = few }
 
 pub returns-then-speed_set_applies : goal.returns-then-speed_set_applies
 returns-then-speed_set_applies c =
     let a = c.args in
-    if-applies a.train a.sets.now a.codes.now a.values.now a.i c.in-Found.s (set_is (set_at a.sets.now a.i) a.train.train_type c.set_for.ensures c.in-Found.is) true (sym c.speed_set_applies.ensures ∙ c.if-speed_set_applies.true)
+    if-applies a.train a.sets.now a.codes.now a.values.now a.i c.in-Some.s (set_is (set_at a.sets.now a.i) a.train.train_type c.set_for.ensures c.in-Some.is) true (sym c.speed_set_applies.ensures ∙ c.if-speed_set_applies.true)
 
 pub returns : goal.returns
 returns c =
     let a = c.args in
-    if-applies a.train a.sets.now a.codes.now a.values.now a.i c.in-Found.s (set_is (set_at a.sets.now a.i) a.train.train_type c.set_for.ensures c.in-Found.is) false (sym c.speed_set_applies.ensures ∙ c.if-speed_set_applies.false)
+    if-applies a.train a.sets.now a.codes.now a.values.now a.i c.in-Some.s (set_is (set_at a.sets.now a.i) a.train.train_type c.set_for.ensures c.in-Some.is) false (sym c.speed_set_applies.ensures ∙ c.if-speed_set_applies.false)

@@ -1,11 +1,11 @@
 -- `lay_limits`: what is left to lay from limit i on gives what was to be laid at first.
+use Rattle.std.specs.Prelude.{Some}
 use Prim.Native.Nat.{◌+◌}
 use native.Mathlib.Omega.{arith}
 use mathlib.Core.Path.{refl, ap}
 use lib.ListN.{length}
 use Rattle.speed.specs.Column.{points}
 use Rattle.speed.proofs.PointColumn.{leaves_at}
-use Rattle.link.specs.declared.speed_set.SetFound.TheVariants.{Found}
 use Rattle.link.specs.Table.{limit_of}
 use Rattle.path_speeds.specs.Limits.{lay_all, laying}
 use Rattle.path_speeds.proofs.Lowered.{limits_end, to_lay, lay-next, lay-skip, lay-end, lay-whole, length_whole}
@@ -67,6 +67,6 @@ returns c =
     let ps = points a.n a.col.now in
     let left = to_lay top base tail limits end in
     let all = left a.s.limits_first in
-    leaves_at o.col o.m (lay_all ps all) (lay_all ps (laying top base a.length.0 limits (Found a.s)))
+    leaves_at o.col o.m (lay_all ps all) (lay_all ps (laying top base a.length.0 limits (Some a.s)))
     (limits-done a.col.now (lay_all ps all) (left o.i) o.col o.m o.invariant (lay-end top base tail limits end o.i c.loop-i-test.false))
     (ap (lay_all ps) (lay-whole top base tail a.length.0 limits a.s c.tail_of-tail.ensures))

@@ -1,6 +1,5 @@
 -- `add_link`: the set that is taken, and then its limits.
-use Rattle.std.proofs.Common.{min, sym, ap, ◌∙◌}
-use Rattle.link.specs.declared.speed_set.SetFound.TheVariants.{Found}
+use Rattle.std.proofs.Common.{min, sym, ap, ◌∙◌, Some}
 use Rattle.path_speeds.specs.Limits.{speed_sets}
 use Rattle.view.specs.History.{laid_up_to, with_more}
 use Rattle.view.proofs.Laid.{laid_none}
@@ -20,4 +19,4 @@ returns c =
     let a = c.args in
     let q = speed_sets a.sets.now a.codes.now a.values.now a.limits.now in
     c.add_limits.ensures
-    ∙ ap (with_more a.boards.now a.tags.now a.n) (lays-by a.train q a.p (Found c.in-Found.s) (sym c.in-Found.is ∙ c.applying-found.ensures))
+    ∙ ap (with_more a.boards.now a.tags.now a.n) (lays-by a.train q a.p (Some c.in-Some.s) (sym c.in-Some.is ∙ c.applying-found.ensures))

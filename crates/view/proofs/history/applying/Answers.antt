@@ -13,13 +13,13 @@ returns-in_default c =
 pub returns-then-s-gt64 : goal.returns-then-s-gt64
 returns-then-s-gt64 c =
     let a = c.args in
-    taken-many a.train a.sets.now a.codes.now a.values.now a.i c.in-Found.s (set_is (set_at a.sets.now a.i) a.train.train_type c.set_for.ensures c.in-Found.is) c.if-s-gt64.true
+    taken-many a.train a.sets.now a.codes.now a.values.now a.i c.in-Some.s (set_is (set_at a.sets.now a.i) a.train.train_type c.set_for.ensures c.in-Some.is) c.if-s-gt64.true
 
 pub applying_set-requires : goal.applying_set-requires
 applying_set-requires c =
-    let a = c.args in record { i_bound = omega arith; train_type_value = few-taken a.train a.sets.now a.codes.now a.values.now a.i c.in-Found.s (set_is (set_at a.sets.now a.i) a.train.train_type c.set_for.ensures c.in-Found.is) c.if-s-gt64.false }
+    let a = c.args in record { i_bound = omega arith; train_type_value = few-taken a.train a.sets.now a.codes.now a.values.now a.i c.in-Some.s (set_is (set_at a.sets.now a.i) a.train.train_type c.set_for.ensures c.in-Some.is) c.if-s-gt64.false }
 
 pub returns : goal.returns
 returns c =
     let a = c.args in
-    c.applying_set.ensures ∙ taken-few a.train a.sets.now a.codes.now a.values.now a.i c.in-Found.s (set_is (set_at a.sets.now a.i) a.train.train_type c.set_for.ensures c.in-Found.is) c.if-s-gt64.false
+    c.applying_set.ensures ∙ taken-few a.train a.sets.now a.codes.now a.values.now a.i c.in-Some.s (set_is (set_at a.sets.now a.i) a.train.train_type c.set_for.ensures c.in-Some.is) c.if-s-gt64.false
