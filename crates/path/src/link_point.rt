@@ -53,13 +53,11 @@ pub fn add_counts(offsets: &[f64], numbers: &[u32], n: usize) -> LinkPoint
     let mut grades = 0;
     let mut curves = 0;
     let mut powers = 0;
-    let mut i = 0;
-    while i < n {
+    for i in 0..n {
         let p = link_point_at(offsets, numbers, i);
         grades += p.grade_count;
         curves += p.curve_count;
         powers += p.cat_power_count;
-        i += 1;
     }
     LinkPoint {
         offset: Length(0.0),

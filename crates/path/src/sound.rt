@@ -79,10 +79,8 @@ fn offsets_rise(offsets: &[f64], numbers: &[u32], n: usize) -> bool
     ensures { result ≡ spec.offsets_rise (link_points n offsets.now numbers.now) }
 {
     let mut ok = true;
-    let mut i = 1;
-    while i < n {
+    for i in 1..n {
         ok = ok & (entry(offsets, i - 1) < entry(offsets, i));
-        i += 1;
     }
     ok
 }
@@ -94,10 +92,8 @@ fn all_numbered(offsets: &[f64], numbers: &[u32], n: usize) -> bool
     ensures { result ≡ spec.all_numbered (link_points n offsets.now numbers.now) }
 {
     let mut ok = true;
-    let mut i = 0;
-    while i < n {
+    for i in 0..n {
         ok = ok & (link_point_within(offsets, numbers, i).link_idx != 0);
-        i += 1;
     }
     ok
 }
@@ -134,10 +130,8 @@ fn sorted_from(speeds: &[f64], n: usize, o: Length) -> bool
     ensures { result ≡ spec.sorted_from o.0 (points n speeds.now) }
 {
     let mut ok = speed_offset(speeds, 0) == o.0;
-    let mut i = 1;
-    while i < n {
+    for i in 1..n {
         ok = ok & (speed_offset(speeds, i - 1) <= speed_offset(speeds, i));
-        i += 1;
     }
     ok
 }
@@ -165,8 +159,7 @@ fn counts_lead(p: PathTpc, offsets: &[f64], numbers: &[u32], grades: &[f64], cur
     let mut k = 0;
     let mut w = 0;
     let mut ok = true;
-    let mut i = 0;
-    while i < n {
+    for i in 0..n {
         if grade_count <= g {
             return false;
         }
@@ -180,7 +173,6 @@ fn counts_lead(p: PathTpc, offsets: &[f64], numbers: &[u32], grades: &[f64], cur
         g += q.grade_count;
         k += q.curve_count;
         w += q.cat_power_count;
-        i += 1;
     }
     counts_add_up(p, g, k, w) & ok
 }

@@ -25,14 +25,12 @@ fn drop_count(offsets: &[f64], numbers: &[u32], n: usize, x: Length) -> usize
     requires { 0 < n }
     ensures { result ≡ spec.drop_count x.0 (link_points n offsets.now numbers.now) }
 {
-    let mut i = 1;
-    while i < n {
+    for i in 1..n {
         if !(column::floats::get(offsets, i) < x.0) {
             return i - 1;
         }
-        i += 1;
     }
-    i - 1
+    n - 1
 }
 
 // Question 10: x lies between the first and the last of n link points.

@@ -23,14 +23,13 @@ fn drop_from(offsets: &[f64], numbers: &[u32], n: usize, from: usize, x: f64) ->
     requires { from < n }
     ensures { result ≡ from + drop_count x (drop from (link_points n offsets.now numbers.now)) }
 {
-    let mut i = from;
-    while i + 1 < n {
+    let last = n - 1;
+    for i in from..last {
         if !(column::floats::get(offsets, i + 1) < x) {
             return i;
         }
-        i += 1;
     }
-    i
+    last
 }
 
 // Questions 1, 10 and 12 of a trim behind x, where `from` of n link points are gone.
@@ -55,10 +54,8 @@ fn going(xs: &[f64], offsets: &[f64], numbers: &[u32], n: usize) -> Progress
     ensures { result ≡ spec.going_of 0 0 xs.now (link_points n offsets.now numbers.now) }
 {
     let mut gone = 0;
-    let mut k = 0;
-    while k < xs.len() {
-        let x = xs[k];
-        let answer = trim_answer(offsets, numbers, n, gone, x);
+    for (k, x) in xs.iter().enumerate() {
+        let answer = trim_answer(offsets, numbers, n, gone, *x);
         if answer.number != 0 {
             return Progress {
                 gone,
@@ -68,8 +65,7 @@ fn going(xs: &[f64], offsets: &[f64], numbers: &[u32], n: usize) -> Progress
                 },
             };
         }
-        gone = drop_from(offsets, numbers, n, gone, x);
-        k += 1;
+        gone = drop_from(offsets, numbers, n, gone, *x);
     }
     Progress {
         gone,

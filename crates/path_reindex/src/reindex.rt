@@ -30,12 +30,10 @@ fn renumbers(new: &[u32], n: u32) -> bool
 fn renumber_question(numbers: &[u32], count: usize, new: &[u32]) -> Option<usize>
     ensures { result ≡ first_no (map (spec.renumbers new.now) (questions.numbers true numbers.now count)) }
 {
-    let mut k = 0;
-    while k < count {
+    for k in 0..count {
         if !renumbers(new, number_at(numbers, true, k)) {
             return Some(k);
         }
-        k += 1;
     }
     None
 }
@@ -80,11 +78,9 @@ fn renumber(numbers: &mut [u32], n: usize, new: &[u32])
 {
     let end = n - 1;
     let mut last = four_at(&*numbers, 0).3;
-    let mut i = 0;
-    while i < end {
+    for i in 0..end {
         last = get(new, four_at(&*numbers, i).3 as usize);
         put_number(&mut *numbers, i, last);
-        i += 1;
     }
     put_number(&mut *numbers, end, last);
 }

@@ -55,12 +55,6 @@ overflow_add-w c =
     let ns = a.numbers.now in
     counted-fits power_count_of os ns a.p.link_count (λ j. (counts-small os ns c.type_inv.numbers j).2) l.i l.w c.requires.link_count_bound (omega arith) c.link_point_within-q.ensures l.invariant.powers
 
-pub overflow_add-i : goal.overflow_add-i
-overflow_add-i c = omega (arith, c.loop-i-test.true, c.requires.link_count_bound)
-
-pub loop-i-smaller : goal.loop-i-smaller
-loop-i-smaller c = omega (arith, c.loop-i-test.true)
-
 pub loop-i-preserved : goal.loop-i-preserved
 loop-i-preserved c =
     let a = c.args in

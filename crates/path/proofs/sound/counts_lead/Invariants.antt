@@ -1,5 +1,4 @@
 -- `counts_lead`: before point i stand the sums, which are its first records, and the answer for the points before it.
-use Prim.Native.Nat.{◌-◌}
 use Rattle.lookup.specs.Coeff.{coeffs}
 use Rattle.path.proofs.Lead.{Led}
 use Rattle.path.proofs.sound.counts_lead.Given as goal
@@ -7,6 +6,3 @@ use Rattle.path.proofs.sound.counts_lead.Given as goal
 abbrev pub invariant-loop-i : goal.invariant-loop-i
 invariant-loop-i l =
     Led l.p (coeffs l.p.grade_count l.grades) (coeffs l.p.curve_count l.curves) l.offsets l.numbers l.i l.g l.k l.w l.ok
-
-abbrev pub decreases-loop-i : goal.decreases-loop-i
-decreases-loop-i l = l.p.link_count - l.i

@@ -1,5 +1,5 @@
 -- `offsets_rise`: the answer for the link points before i, and that for those from i on, are the answer.
-use Prim.Native.Nat.{◌-◌, ◌≤◌, ◌<◌}
+use Prim.Native.Nat.{◌≤◌, ◌<◌}
 use mathlib.Core.Path.{◌≡◌}
 use Rattle.path.specs.Records.{link_points}
 use Rattle.path.specs.Sound.{offsets_rise}
@@ -8,6 +8,3 @@ use Rattle.path.proofs.sound.offsets_rise.Given as goal
 
 abbrev pub invariant-loop-i : goal.invariant-loop-i
 invariant-loop-i l = (0 < l.i) × (l.i ≤ l.n) × (offsets_rise (link_points l.n l.offsets l.numbers) ≡ risen l.offsets l.numbers l.n l.ok l.i)
-
-abbrev pub decreases-loop-i : goal.decreases-loop-i
-decreases-loop-i l = l.n - l.i

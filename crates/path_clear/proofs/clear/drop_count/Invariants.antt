@@ -5,6 +5,3 @@ use Rattle.path_clear.proofs.clear.drop_count.Given as goal
 
 abbrev pub invariant-loop-i : goal.invariant-loop-i
 invariant-loop-i l = (0 < l.i) × (l.i ≤ l.n) × Passed l.x.0 l.offsets l.numbers l.n l.i
-
-abbrev pub decreases-loop-i : goal.decreases-loop-i
-decreases-loop-i l = l.n - l.i

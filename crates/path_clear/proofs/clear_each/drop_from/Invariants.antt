@@ -5,6 +5,3 @@ use Rattle.path_clear.proofs.clear_each.drop_from.Given as goal
 
 abbrev pub invariant-loop-i : goal.invariant-loop-i
 invariant-loop-i l = (l.i < l.n) × ((h : l.from < l.n) → Behind l.x l.offsets l.numbers l.n l.from h l.i)
-
-abbrev pub decreases-loop-i : goal.decreases-loop-i
-decreases-loop-i l = l.n - l.i

@@ -9,6 +9,3 @@ use Rattle.path_clear.proofs.clear_each.going.Given as goal
 abbrev pub invariant-loop-k : goal.invariant-loop-k
 invariant-loop-k l =
     (l.k ≤ length l.xs) × (l.gone < l.n) × (going_of l.gone l.k (drop l.k l.xs) (link_points l.n l.offsets l.numbers) ≡ going_of 0 0 l.xs (link_points l.n l.offsets l.numbers))
-
-abbrev pub decreases-loop-k : goal.decreases-loop-k
-decreases-loop-k l = length l.xs - l.k

@@ -9,6 +9,3 @@ use Rattle.path_reindex.proofs.reindex.renumber.Given as goal
 
 abbrev pub invariant-loop-i : goal.invariant-loop-i
 invariant-loop-i l = (length l.numbers ≡ length l.initial.numbers) × (l.i ≤ l.end) × Partly l.new (length l.initial.numbers) l.n (renumbered_fours l.new (records four l.n l.initial.numbers)) l.numbers l.i l.last
-
-abbrev pub decreases-loop-i : goal.decreases-loop-i
-decreases-loop-i l = l.end - l.i

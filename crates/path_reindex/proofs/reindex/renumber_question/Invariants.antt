@@ -10,6 +10,3 @@ use Rattle.path_reindex.proofs.reindex.renumber_question.Given as goal
 
 abbrev pub invariant-loop-k : goal.invariant-loop-k
 invariant-loop-k l = first_no_from l.k (map (renumbers l.new) (up_from (number_at true l.numbers) l.k (l.count - l.k))) ≡ first_no (map (renumbers l.new) (numbers true l.numbers l.count))
-
-abbrev pub decreases-loop-k : goal.decreases-loop-k
-decreases-loop-k l = l.count - l.k
