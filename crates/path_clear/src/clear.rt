@@ -1,5 +1,5 @@
 // `clear`: the links behind an offset go.
-ghost use Rattle.std.specs.Prelude.{◌≡◌, true, ◌<◌, take};
+ghost use Rattle.std.specs.Prelude.{◌≡◌, true, ◌+◌, ◌<◌, take, drop};
 ghost use Rattle.path.specs.Records.{columns, link_points, path_of};
 ghost use Rattle.path.specs.Answers.{Outcome, left, changed};
 ghost use Rattle.path.specs.Sound.{sound, totals};
@@ -20,17 +20,18 @@ pub struct ClearAnswer {
     pub dropped: LinkPoint,
 }
 
-// How many link points go: the kept beginning is the first whose next one is not before x.
-fn drop_count(offsets: &[f64], numbers: &[u32], n: usize, x: Length) -> usize
-    requires { 0 < n }
-    ensures { result ≡ spec.drop_count x.0 (link_points n offsets.now numbers.now) }
+// The first link point that stays, of those from `from` on: the first whose next one is not before x.
+pub fn drop_from(offsets: &[f64], numbers: &[u32], n: usize, from: usize, x: f64) -> usize
+    requires { from < n }
+    ensures { result ≡ from + spec.drop_count x (drop from (link_points n offsets.now numbers.now)) }
 {
-    for i in 1..n {
-        if !(column::floats::get(offsets, i) < x.0) {
-            return i - 1;
+    let last = n - 1;
+    for i in from..last {
+        if !(column::floats::get(offsets, i + 1) < x) {
+            return i;
         }
     }
-    n - 1
+    last
 }
 
 // Question 10: x lies between the first and the last of n link points.
@@ -205,7 +206,7 @@ pub fn clear(
             dropped: add_counts(&*offsets, &*numbers, 0),
         };
     }
-    let d = drop_count(&*offsets, &*numbers, p.link_count, x);
+    let d = drop_from(&*offsets, &*numbers, p.link_count, 0, x.0);
     let dropped = add_counts(&*offsets, &*numbers, d);
     let outcome = cleared(
         p,

@@ -1,12 +1,12 @@
 // `clear` at one offset after another, all or nothing: questions 1 and 2 of the path are asked once, and the records move once.
-ghost use Rattle.std.specs.Prelude.{◌≡◌, ◌+◌, ◌<◌, drop};
+ghost use Rattle.std.specs.Prelude.{◌≡◌, ◌<◌, drop};
 ghost use Rattle.path.specs.Records.{columns, link_points};
 ghost use Rattle.path.specs.Answers.{left};
-ghost use Rattle.path_clear.specs.Clear.{Cleared, drop_count};
+ghost use Rattle.path_clear.specs.Clear.{Cleared};
 ghost use Rattle.path_clear.specs.TrimsByPoints as spec;
 ghost use Rattle.path_clear.specs.Trims.{clear_each};
 
-use crate::clear::{ClearAnswer, cleared};
+use crate::clear::{ClearAnswer, cleared, drop_from};
 use path::answer::{asked, done, path_answer};
 use path::link_point::{LinkPoint, add_counts};
 use path::path_tpc::{Answer, PathAnswer, PathTpc};
@@ -16,20 +16,6 @@ use path::path_tpc::{Answer, PathAnswer, PathTpc};
 struct Progress {
     gone: usize,
     answer: Answer,
-}
-
-// The first link point that stays, of those from `from` on: the first whose next one is not before x.
-fn drop_from(offsets: &[f64], numbers: &[u32], n: usize, from: usize, x: f64) -> usize
-    requires { from < n }
-    ensures { result ≡ from + drop_count x (drop from (link_points n offsets.now numbers.now)) }
-{
-    let last = n - 1;
-    for i in from..last {
-        if !(column::floats::get(offsets, i + 1) < x) {
-            return i;
-        }
-    }
-    last
 }
 
 // Questions 1, 10 and 12 of a trim behind x, where `from` of n link points are gone.

@@ -1,5 +1,5 @@
 -- `going`: the trims that are left, from the first link point that stays on, give the answer of the whole list.
-use Prim.Native.Nat.{◌-◌, ◌≤◌, ◌<◌}
+use Prim.Native.Nat.{◌≤◌, ◌<◌}
 use mathlib.Core.Path.{◌≡◌}
 use lib.ListN.{length, drop}
 use Rattle.path.specs.Records.{link_points}

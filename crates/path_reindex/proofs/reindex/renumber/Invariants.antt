@@ -1,6 +1,6 @@
 -- `renumber`: before each turn i records have their new numbers.
 use mathlib.Core.Path.{◌≡◌}
-use Prim.Native.Nat.{◌-◌, ◌≤◌}
+use Prim.Native.Nat.{◌≤◌}
 use lib.ListN.{length}
 use Rattle.column.specs.Records.{records, four}
 use Rattle.path_reindex.specs.Fours.{renumbered_fours}

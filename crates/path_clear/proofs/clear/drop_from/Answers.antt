@@ -1,13 +1,13 @@
 -- `drop_from`: the link points that are passed and those that still are to go make up the answer.
-use Prim.Native.Nat.{◌+◌}
+use Prim.Native.Nat.{◌+◌, ◌-◌}
 use native.Mathlib.Omega.{arith}
-use mathlib.Core.Path.{◌≡◌}
+use mathlib.Core.Path.{◌≡◌, ◌∙◌}
 use mathlib.Core.Bool.{true, false}
 use lib.ListN.{get_or}
 use lib.Ieee as Ieee
 use Rattle.ieee.specs.Number.{+0}
 use Rattle.path_clear.proofs.Gone.{behind-first, behind_more, behind-stop, behind-all}
-use Rattle.path_clear.proofs.clear_each.drop_from.Goals as goal
+use Rattle.path_clear.proofs.clear.drop_from.Goals as goal
 
 pub loop-i-init : goal.loop-i-init
 loop-i-init c =
@@ -34,4 +34,5 @@ returns c =
     let a = c.args in
     let l = c.loop-i in
     let h = c.requires in
-    behind-all a.x a.offsets.now a.numbers.now a.n a.from h l.i (l.invariant.1 h) (omega arith)
+    let e : a.n - 1 ≡ l.i = omega arith in
+    e ∙ behind-all a.x a.offsets.now a.numbers.now a.n a.from h l.i (l.invariant.1 h) (omega arith)
