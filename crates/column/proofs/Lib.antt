@@ -3,5 +3,5 @@ pub mod Filling
 pub mod Moves
 pub mod Gaps
 pub mod Finite
-pub mod Entry
+pub mod ByEntry
 pub mod Bridge

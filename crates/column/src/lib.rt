@@ -1,10 +1,11 @@
-// Flat columns that the caller lends: single entries, whole stretches, and records of two, three or four entries.
+// Flat columns that the caller lends: single entries, whole stretches, and records of some entries each.
 #![tactic(auto)]
 
-ghost use Rattle.std.specs.Prelude.{◌≡◌, min};
+mod entries; // entries.rt: single entries, and stretches that move or become zero
+mod records; // records.rt: records of two, three or four entries
 
-pub mod floats; // floats.rt: columns of f64
-pub mod words; // words.rt: columns of u32
+pub use entries::{Entry, all_finite, close_gap, get, move_front, open_gap, set, zero_from};
+pub use records::{Record, put_record, record_at};
 
 // The entries of a record, in the column's order.
 #[derive(Clone, Copy)]
@@ -15,10 +16,3 @@ pub struct Three(pub f64, pub f64, pub f64);
 
 #[derive(Clone, Copy)]
 pub struct Four(pub u32, pub u32, pub u32, pub u32);
-
-// The smaller of two counts.
-fn shorter(a: usize, b: usize) -> usize
-    ensures { result ≡ min a b }
-{
-    if a < b { a } else { b }
-}

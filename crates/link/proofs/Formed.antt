@@ -8,7 +8,7 @@ use lib.Ieee.Scale.{finite}
 use Rattle.ieee.specs.Number.{+0}
 use Rattle.column.specs.Records.{record_at, two}
 use Rattle.column.proofs.Filling.{get_d-within}
-use Rattle.column.proofs.Entry.{two-entries, three-entries}
+use Rattle.column.proofs.ByEntry.{two-entries, three-entries}
 use Rattle.link.specs.declared.train_params.TrainType.{TrainType}
 use Rattle.link.specs.declared.train_params.TrainType.TheVariants.{None as NoType, Freight, Passenger, Intermodal, HighSpeedPassenger, TiltTrain, Commuter}
 use Rattle.link.specs.declared.speed_set.SpeedSet.{SpeedSet}

@@ -27,7 +27,7 @@ pub fn speed_limit_at(limits: &[f64], i: usize) -> SpeedLimit
             speed: Velocity(limits[k + 2]),
         };
     }
-    let t = column::floats::three_at(limits, i);
+    let t = column::record_at::<column::Three>(limits, i);
     SpeedLimit {
         offset_start: Length(t.0),
         offset_end: Length(t.1),
@@ -39,12 +39,12 @@ pub fn speed_limit_at(limits: &[f64], i: usize) -> SpeedLimit
 pub fn power_limit_at(powers: &[f64], districts: &[u32], i: usize) -> CatPowerLimit
     ensures { power_of result ≡ power_at powers.now districts.now i }
 {
-    let t = column::floats::three_at(powers, i);
+    let t = column::record_at::<column::Three>(powers, i);
     CatPowerLimit {
         offset_start: Length(t.0),
         offset_end: Length(t.1),
         power_limit: Power(t.2),
-        district_id: column::words::get(districts, i),
+        district_id: column::get(districts, i),
     }
 }
 

@@ -36,7 +36,7 @@ fn sample_at(col: &[f64], i: usize) -> Two
     if i < col.len() / 2 {
         return sample_in(col, i);
     }
-    column::floats::two_at(col, i)
+    column::record_at::<column::Two>(col, i)
 }
 
 // Elevation i of the pool.

@@ -32,17 +32,17 @@ pub fn link_numbers(links: &[u32], i: usize) -> LinkNumbers
 {
     let k = 11 * i;
     LinkNumbers {
-        idx_curr: column::words::get(links, k),
-        idx_next: column::words::get(links, k + 1),
-        idx_next_alt: column::words::get(links, k + 2),
-        idx_prev: column::words::get(links, k + 3),
-        idx_prev_alt: column::words::get(links, k + 4),
-        elevs_first: column::words::get(links, k + 5),
-        elevs_count: column::words::get(links, k + 6),
-        headings_first: column::words::get(links, k + 7),
-        headings_count: column::words::get(links, k + 8),
-        powers_first: column::words::get(links, k + 9),
-        powers_count: column::words::get(links, k + 10),
+        idx_curr: column::get(links, k),
+        idx_next: column::get(links, k + 1),
+        idx_next_alt: column::get(links, k + 2),
+        idx_prev: column::get(links, k + 3),
+        idx_prev_alt: column::get(links, k + 4),
+        elevs_first: column::get(links, k + 5),
+        elevs_count: column::get(links, k + 6),
+        headings_first: column::get(links, k + 7),
+        headings_count: column::get(links, k + 8),
+        powers_first: column::get(links, k + 9),
+        powers_count: column::get(links, k + 10),
     }
 }
 
@@ -166,7 +166,7 @@ pub fn well_formed(
     if !in_pools(elevs, headings, powers, districts, l) {
         return false;
     }
-    let length = column::floats::get(lengths, i);
+    let length = column::get(lengths, i);
     if !ieee::is_finite(length) {
         return false;
     }

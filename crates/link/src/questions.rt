@@ -12,9 +12,9 @@ pub fn number_at(list: &[u32], points: bool, k: usize) -> u32
     ensures { result ≡ spec.number_at points list.now k }
 {
     if points {
-        return column::words::four_at(list, k).3;
+        return column::record_at::<column::Four>(list, k).3;
     }
-    column::words::get(list, k)
+    column::get(list, k)
 }
 
 // Question 4 of the first `count` numbers.

@@ -117,9 +117,9 @@ pub fn condition_holds(codes: &[u32], values: &[f64], i: usize, train: TrainPara
     requires { i < 2 ^ 40 }
     ensures { result ≡ holds train (condition_at codes.now values.now i) }
 {
-    let kind = column::words::get(codes, 2 * i);
-    let code = column::words::get(codes, 2 * i + 1);
-    let v = column::floats::get(values, i);
+    let kind = column::get(codes, 2 * i);
+    let code = column::get(codes, 2 * i + 1);
+    let v = column::get(values, i);
     param_holds(train, code, speed_param(kind, v))
 }
 
@@ -128,9 +128,9 @@ pub fn condition_formed(codes: &[u32], values: &[f64], i: usize) -> bool
     requires { i < 2 ^ 40 }
     ensures { result ≡ condition_formed (condition_at codes.now values.now i) }
 {
-    let kind = column::words::get(codes, 2 * i);
-    let code = column::words::get(codes, 2 * i + 1);
-    let v = column::floats::get(values, i);
+    let kind = column::get(codes, 2 * i);
+    let code = column::get(codes, 2 * i + 1);
+    let v = column::get(values, i);
     let Some(_) = speed_param(kind, v) else {
         return false;
     };

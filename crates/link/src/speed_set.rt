@@ -28,12 +28,12 @@ pub fn set_at(sets: &[u32], i: usize, p: usize) -> SpeedSet
 {
     let k = 48 * i + 6 * p;
     SpeedSet {
-        present: column::words::get(sets, k),
-        is_head_end: column::words::get(sets, k + 1),
-        params_first: column::words::get(sets, k + 2),
-        params_count: column::words::get(sets, k + 3),
-        limits_first: column::words::get(sets, k + 4),
-        limits_count: column::words::get(sets, k + 5),
+        present: column::get(sets, k),
+        is_head_end: column::get(sets, k + 1),
+        params_first: column::get(sets, k + 2),
+        params_count: column::get(sets, k + 3),
+        limits_first: column::get(sets, k + 4),
+        limits_count: column::get(sets, k + 5),
     }
 }
 

@@ -24,7 +24,7 @@ pub fn calc_res_val(g: PathResCoeff, offset: Length) -> Length
 pub fn coeff_at(col: &[f64], i: usize) -> PathResCoeff
     ensures { result ≡ record_at triple col.now i }
 {
-    let t = column::floats::three_at(col, i);
+    let t = column::record_at::<column::Three>(col, i);
     PathResCoeff {
         offset: Length(t.0),
         res_coeff: Ratio(t.1),
@@ -50,7 +50,7 @@ pub fn coeff_in(col: &[f64], n: usize, i: usize) -> PathResCoeff
 pub fn put_coeff(col: &mut [f64], i: usize, g: PathResCoeff)
     ensures { col.new ≡ put_record triple col.old i g }
 {
-    column::floats::put_three(&mut *col, i, Three(g.offset.0, g.res_coeff.0, g.res_net.0));
+    column::put_record(&mut *col, i, Three(g.offset.0, g.res_coeff.0, g.res_net.0));
 }
 
 // The offset of record i of n.
@@ -84,15 +84,15 @@ pub fn coeffs_finite(col: &[f64], n: usize, closes: bool) -> bool
     }
     let m = n - 1;
     if col.len() <= m {
-        return column::floats::all_finite(col, col.len());
+        return column::all_finite(col, col.len());
     }
     let k = 3 * m;
     if col.len() <= k {
-        return column::floats::all_finite(col, k);
+        return column::all_finite(col, k);
     }
-    let before = column::floats::all_finite(col, k);
+    let before = column::all_finite(col, k);
     let last = closes_well(col[k], closes);
-    let rest = ieee::is_finite(column::floats::get(col, k + 1))
-        & ieee::is_finite(column::floats::get(col, k + 2));
+    let rest = ieee::is_finite(column::get(col, k + 1))
+        & ieee::is_finite(column::get(col, k + 2));
     before & (last & rest)
 }

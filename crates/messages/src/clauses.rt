@@ -47,7 +47,7 @@ pub fn clause_of(
     if !in_pools(elevs, headings, powers, districts, l) {
         return 2;
     }
-    let length = column::floats::get(lengths, n as usize);
+    let length = column::get(lengths, n as usize);
     if !(ieee::is_finite(length) & (0.0 < length)) {
         return 3;
     }

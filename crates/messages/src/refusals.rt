@@ -30,9 +30,9 @@ fn reach(err: i32, p: PathTpc, offsets: &[f64]) {
         return;
     }
     put(err, b"the path reaches from ");
-    put_real(err, column::floats::get(offsets, 0));
+    put_real(err, column::get(offsets, 0));
     put(err, b" to ");
-    put_real(err, column::floats::get(offsets, p.link_count - 1));
+    put_real(err, column::get(offsets, p.link_count - 1));
 }
 
 // What is wrong with the train, for question 1.
@@ -168,20 +168,20 @@ fn of_link(err: i32, number: u32, kind: TrainType) {
 // The link that place k names: of the list, or of a link point.
 fn link_at(kind: u32, list: &[u32], numbers: &[u32], k: usize) -> u32 {
     if kind == EXTEND {
-        return column::words::get(list, k);
+        return column::get(list, k);
     }
-    column::words::four_at(numbers, k).3
+    column::record_at::<column::Four>(numbers, k).3
 }
 
 // The link that the one at place k of a list is to follow: the one before it, or the path's last.
 fn link_before(list: &[u32], numbers: &[u32], p: PathTpc, k: usize) -> u32 {
     if 0 < k {
-        return column::words::get(list, k - 1);
+        return column::get(list, k - 1);
     }
     if p.link_count == 0 {
         return 0;
     }
-    column::words::four_at(numbers, p.link_count - 1).3
+    column::record_at::<column::Four>(numbers, p.link_count - 1).3
 }
 
 // Questions 4 to 8, which a link was refused by.

@@ -1,5 +1,5 @@
 // Lines that can be read, and that a surveyor would want a word about: one line to standard error for each sort.
-use column::words::{get, set};
+use column::{get, set};
 use route::fields::{bytes_at, count_at, figure_code, float_at, place_code};
 use route::kinds::{LIMIT, LINK, SET, WHEN, kind_of};
 use route::text::next_line;

@@ -17,11 +17,11 @@ use speed::speed_point::{first_from, offset_at, set_offset, speed_at};
 pub fn begin(col: &mut [f64], x: Length, top: Velocity) -> usize
     ensures { Leaves col.new result (cond (leb 2 (length col.old)) (point x.0 top.0 ∷ []) []) }
 {
-    column::floats::zero_from(&mut *col, 0);
+    column::zero_from(&mut *col, 0);
     if col.len() < 2 {
         return 0;
     }
-    column::floats::put_two(&mut *col, 0, Two(x.0, top.0));
+    column::put_record(&mut *col, 0, Two(x.0, top.0));
     1
 }
 
@@ -30,10 +30,10 @@ fn points_in(col: &mut [f64], n: usize) -> usize
     ensures { Leaves col.new result (spec.points_in n col.old) }
 {
     if col.len() / 2 < n {
-        column::floats::zero_from(&mut *col, 0);
+        column::zero_from(&mut *col, 0);
         return 0;
     }
-    column::floats::zero_from(&mut *col, 2 * n);
+    column::zero_from(&mut *col, 2 * n);
     n
 }
 
@@ -47,11 +47,11 @@ fn follow(col: &mut [f64], m: usize, boards: &[f64], tags: &[f64], k: usize) -> 
         return 0;
     }
     if col.len() / 2 < m + 2 {
-        column::floats::zero_from(&mut *col, 0);
+        column::zero_from(&mut *col, 0);
         return 0;
     }
-    let b = column::floats::three_at(boards, k);
-    let t = column::floats::two_at(tags, k);
+    let b = column::record_at::<column::Three>(boards, k);
+    let t = column::record_at::<column::Two>(tags, k);
     insert_as_original(
         col,
         m,
@@ -81,7 +81,7 @@ pub fn drop_before(col: &mut [f64], n: usize, x: Length) -> usize
 {
     let m = points_in(&mut *col, n);
     let from = first_from(col, m, x);
-    column::floats::move_front(&mut *col, 2 * from, 2 * m);
+    column::move_front(&mut *col, 2 * from, 2 * m);
     if m <= from {
         return 0;
     }

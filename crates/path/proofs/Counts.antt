@@ -10,7 +10,7 @@ use lib.Ieee.{Float}
 use mir.Syntax.{w32, w64}
 use mir.Val.{Fits}
 use Rattle.column.specs.Records.{record_at, three}
-use Rattle.column.proofs.Entry.{four-entries}
+use Rattle.column.proofs.ByEntry.{four-entries}
 use Rattle.column.proofs.Bridge.{length-records, record-at}
 use Rattle.lookup.specs.declared.path_res_coeff.PathResCoeff.{PathResCoeff}
 use Rattle.lookup.specs.Coeff.{triple, coeffs, no_coeff, stands_at, offset_at}

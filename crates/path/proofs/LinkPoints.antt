@@ -9,7 +9,7 @@ use lib.Seq.{get_or-drop, drop-drop}
 use lib.Ieee.{Float, nan}
 use Rattle.ieee.specs.Number.{+0}
 use Rattle.column.specs.Records.{record_at, flat, four}
-use Rattle.column.proofs.Entry.{four-entries}
+use Rattle.column.proofs.ByEntry.{four-entries}
 use Rattle.column.proofs.Filling.{get_d-within}
 use Rattle.path.specs.declared.link_point.LinkPoint.{LinkPoint}
 use Rattle.path.specs.Records.{link_point, offset_of, four_of, point_at, link_points, no_link_point, link_point_at, end_point}

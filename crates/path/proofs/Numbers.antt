@@ -8,7 +8,7 @@ use mathlib.Core.List.{List, ◌∷◌, map}
 use lib.ListN.{take, drop}
 use lib.Ieee.{Float}
 use Rattle.column.specs.declared.Four.{Four}
-use Rattle.column.proofs.Entry.{four-entries}
+use Rattle.column.proofs.ByEntry.{four-entries}
 use Rattle.link.specs.Lists.{up_from}
 use Rattle.link.specs.Questions.{number_at, numbers}
 use Rattle.link.proofs.Loops.{range-more, range_none}

@@ -15,9 +15,9 @@ fn records_finite(col: &[f64], n: usize, w: usize) -> bool
     ensures { result ≡ all_finite (take (w * n) col.now) }
 {
     if col.len() <= n {
-        return column::floats::all_finite(col, col.len());
+        return column::all_finite(col, col.len());
     }
-    column::floats::all_finite(col, w * n)
+    column::all_finite(col, w * n)
 }
 
 // Question 1 of a path.
@@ -33,7 +33,7 @@ pub fn path_finite(
 ) -> bool
     ensures { result ≡ path_finite p (columns offsets.now numbers.now grades.now curves.now speeds.now powers.now districts.now) }
 {
-    let links = column::floats::all_finite(offsets, p.link_count);
+    let links = column::all_finite(offsets, p.link_count);
     let slopes = coeffs_finite(grades, p.grade_count, p.is_finished);
     let bends = coeffs_finite(curves, p.curve_count, p.is_finished);
     let limits = records_finite(speeds, p.speed_count, 2);

@@ -19,9 +19,9 @@ pub struct LinkPoint {
 pub fn link_point_at(offsets: &[f64], numbers: &[u32], i: usize) -> LinkPoint
     ensures { result ≡ point_at offsets.now numbers.now i }
 {
-    let q = column::words::four_at(numbers, i);
+    let q = column::record_at::<column::Four>(numbers, i);
     LinkPoint {
-        offset: Length(column::floats::get(offsets, i)),
+        offset: Length(column::get(offsets, i)),
         grade_count: q.0 as usize,
         curve_count: q.1 as usize,
         cat_power_count: q.2 as usize,

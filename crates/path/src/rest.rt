@@ -23,11 +23,11 @@ pub fn zero_rest(
         (columns offsets.old numbers.old grades.old curves.old speeds.old powers.old districts.old)
         (path_of p (columns offsets.old numbers.old grades.old curves.old speeds.old powers.old districts.old))) }
 {
-    column::floats::zero_from(&mut *offsets, p.link_count);
-    column::words::zero_from(&mut *numbers, 4 * p.link_count);
-    column::floats::zero_from(&mut *grades, 3 * p.grade_count);
-    column::floats::zero_from(&mut *curves, 3 * p.curve_count);
-    column::floats::zero_from(&mut *speeds, 2 * p.speed_count);
-    column::floats::zero_from(&mut *powers, 3 * p.power_count);
-    column::words::zero_from(&mut *districts, p.power_count);
+    column::zero_from(&mut *offsets, p.link_count);
+    column::zero_from(&mut *numbers, 4 * p.link_count);
+    column::zero_from(&mut *grades, 3 * p.grade_count);
+    column::zero_from(&mut *curves, 3 * p.curve_count);
+    column::zero_from(&mut *speeds, 2 * p.speed_count);
+    column::zero_from(&mut *powers, 3 * p.power_count);
+    column::zero_from(&mut *districts, p.power_count);
 }

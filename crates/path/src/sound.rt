@@ -184,7 +184,7 @@ fn closes(col: &[f64], m: usize) -> bool
     if m == 0 {
         return false;
     }
-    column::floats::three_at(col, m - 1).0 == 1.0 / 0.0
+    column::record_at::<column::Three>(col, m - 1).0 == 1.0 / 0.0
 }
 
 // Whether the end point counts nothing.

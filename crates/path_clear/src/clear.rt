@@ -27,7 +27,7 @@ pub fn drop_from(offsets: &[f64], numbers: &[u32], n: usize, from: usize, x: f64
 {
     let last = n - 1;
     for i in from..last {
-        if !(column::floats::get(offsets, i + 1) < x) {
+        if !(column::get(offsets, i + 1) < x) {
             return i;
         }
     }
@@ -39,8 +39,8 @@ fn in_range(offsets: &[f64], numbers: &[u32], n: usize, x: Length) -> bool
     requires { 0 < n }
     ensures { result ≡ spec.in_range x.0 (link_points n offsets.now numbers.now) }
 {
-    let first = column::floats::get(offsets, 0);
-    let last = column::floats::get(offsets, n - 1);
+    let first = column::get(offsets, 0);
+    let last = column::get(offsets, n - 1);
     (first <= x.0) & (x.0 <= last)
 }
 
@@ -93,14 +93,14 @@ fn cut(
         (columns offsets.old numbers.old grades.old curves.old speeds.old powers.old districts.old)
         (spec.without_links d (path_of p (columns offsets.old numbers.old grades.old curves.old speeds.old powers.old districts.old)))) }
 {
-    let begin = Length(column::floats::get(&*offsets, d));
-    column::floats::move_front(&mut *offsets, d, p.link_count);
-    column::words::move_front(&mut *numbers, 4 * d, 4 * p.link_count);
-    column::floats::move_front(&mut *grades, 3 * dropped.grade_count, 3 * p.grade_count);
-    column::floats::move_front(&mut *curves, 3 * dropped.curve_count, 3 * p.curve_count);
+    let begin = Length(column::get(&*offsets, d));
+    column::move_front(&mut *offsets, d, p.link_count);
+    column::move_front(&mut *numbers, 4 * d, 4 * p.link_count);
+    column::move_front(&mut *grades, 3 * dropped.grade_count, 3 * p.grade_count);
+    column::move_front(&mut *curves, 3 * dropped.curve_count, 3 * p.curve_count);
     let speed_count = clear_points(&mut *speeds, p.speed_count, begin);
-    column::floats::move_front(&mut *powers, 3 * dropped.cat_power_count, 3 * p.power_count);
-    column::words::move_front(&mut *districts, dropped.cat_power_count, p.power_count);
+    column::move_front(&mut *powers, 3 * dropped.cat_power_count, 3 * p.power_count);
+    column::move_front(&mut *districts, dropped.cat_power_count, p.power_count);
     PathAnswer {
         answer: Answer {
             number: 0,

@@ -26,8 +26,8 @@ fn trim_answer(offsets: &[f64], numbers: &[u32], n: usize, from: usize, x: f64) 
     if !ieee::is_finite(x) {
         return asked(1, false);
     }
-    let first = column::floats::get(offsets, from);
-    let last = column::floats::get(offsets, n - 1);
+    let first = column::get(offsets, from);
+    let last = column::get(offsets, n - 1);
     if !((first <= x) & (x <= last)) {
         return asked(10, false);
     }

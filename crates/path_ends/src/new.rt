@@ -5,7 +5,7 @@ ghost use Rattle.path.specs.Answers.{Outcome, left};
 ghost use Rattle.path_ends.specs.New.{start, refused_new, new_of};
 
 use column::Two;
-use column::floats::put_two;
+use column::put_record;
 use link::train_params::TrainParams;
 use path::finite::train_finite;
 use path::path_tpc::{Answer, PathAnswer, PathTpc};
@@ -73,14 +73,14 @@ pub fn new(
     ) {
         return refused(9);
     }
-    column::floats::zero_from(&mut *offsets, 0);
-    column::words::zero_from(&mut *numbers, 0);
-    column::floats::zero_from(&mut *grades, 0);
-    column::floats::zero_from(&mut *curves, 0);
-    column::floats::zero_from(&mut *speeds, 0);
-    column::floats::zero_from(&mut *powers, 0);
-    column::words::zero_from(&mut *districts, 0);
-    put_two(&mut *speeds, 0, Two(0.0, train.speed_max.0));
+    column::zero_from(&mut *offsets, 0);
+    column::zero_from(&mut *numbers, 0);
+    column::zero_from(&mut *grades, 0);
+    column::zero_from(&mut *curves, 0);
+    column::zero_from(&mut *speeds, 0);
+    column::zero_from(&mut *powers, 0);
+    column::zero_from(&mut *districts, 0);
+    put_record(&mut *speeds, 0, Two(0.0, train.speed_max.0));
     PathAnswer {
         answer: Answer {
             number: 0,

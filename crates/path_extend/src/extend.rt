@@ -62,7 +62,7 @@ fn start_path_end(
     let curve = coeff_at(curves, p.curve_count - 1);
     let net = starting_net(p.grade_count, Length(grade.res_net.0), list, links, elevs);
     PathEnd {
-        link: Length(column::floats::get(offsets, p.link_count - 1)),
+        link: Length(column::get(offsets, p.link_count - 1)),
         grade: Length(grade.offset.0),
         grade_net: Length(net.0),
         curve_net: Length(curve.res_net.0),

@@ -29,7 +29,7 @@ fn grade_end(links: &[u32], lengths: &[f64], elevs: &[f64], base: Length, i: usi
     let first = l.elevs_first as usize;
     let count = l.elevs_count as usize;
     if count == 0 {
-        return Length(base.0 + column::floats::get(lengths, i));
+        return Length(base.0 + column::get(lengths, i));
     }
     if count == 1 {
         return base;
@@ -95,17 +95,17 @@ fn join_point(
         (spec.join_point links.now lengths.now (link_points n offsets.old numbers.old) i) }
 {
     let l = link_numbers(links, i);
-    let base = column::floats::get(&*offsets, n - 1);
-    let end = column::floats::get(lengths, i) + base;
+    let base = column::get(&*offsets, n - 1);
+    let end = column::get(lengths, i) + base;
     let grades = stretch_count(l.elevs_count as usize) as u32;
     let curves = stretch_count(l.headings_count as usize) as u32;
-    column::words::put_four(
+    column::put_record(
         &mut *numbers,
         n - 1,
         Four(grades, curves, l.powers_count, l.idx_curr),
     );
-    column::floats::set(&mut *offsets, n, end);
-    column::words::put_four(&mut *numbers, n, Four(0, 0, 0, l.idx_curr));
+    column::set(&mut *offsets, n, end);
+    column::put_record(&mut *numbers, n, Four(0, 0, 0, l.idx_curr));
 }
 
 // The link points of the listed links behind the n of two columns.
@@ -207,7 +207,7 @@ fn join_record(
         (rises links.now lengths.now elevs.now) headings.now base.0 (coeffs m col.old) i) }
 {
     let l = link_numbers(links, i);
-    let length = Length(column::floats::get(lengths, i));
+    let length = Length(column::get(lengths, i));
     if curves {
         let first = l.headings_first as usize;
         let count = l.headings_count as usize;

@@ -53,7 +53,7 @@ fn walk_link(
         (table_of links.now lengths.now sets.now elevs.now headings.now limits.now codes.now values.now link_powers.now link_districts.now) at i }
 {
     let l = link_numbers(links, i);
-    let length = Length(column::floats::get(lengths, i));
+    let length = Length(column::get(lengths, i));
     let end = length.0 + at.link.0;
     let laid = link_finite(sets, codes, values, limits, i, at.link, own, train);
     let grade = at.grade;

@@ -37,7 +37,7 @@ fn posted_answer(
     if first.number != 0 {
         return first;
     }
-    asked(10, column::floats::get(offsets, 0) <= x.0)
+    asked(10, column::get(offsets, 0) <= x.0)
 }
 
 // The speed posted at x; +0 where the call is refused.

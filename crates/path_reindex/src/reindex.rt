@@ -9,7 +9,7 @@ ghost use Rattle.path_reindex.specs.Reindex as spec;
 ghost use Rattle.path_reindex.specs.Fours as fours;
 
 use column::Four;
-use column::words::{four_at, get, put_four};
+use column::{get, put_record, record_at};
 use link::questions::number_at;
 use path::answer::{asked_each, path_answer};
 use path::path_tpc::{Answer, PathAnswer, PathTpc};
@@ -65,8 +65,8 @@ fn reindex_answer(
 fn put_number(numbers: &mut [u32], i: usize, number: u32)
     ensures { numbers.new ≡ put_record four numbers.old i (fours.with_fourth number (record_at four numbers.old i)) }
 {
-    let q = four_at(&*numbers, i);
-    put_four(&mut *numbers, i, Four(q.0, q.1, q.2, number));
+    let q = record_at::<Four>(&*numbers, i);
+    put_record(&mut *numbers, i, Four(q.0, q.1, q.2, number));
 }
 
 // The new number of each of n link points, in one pass over a column that holds these points and zeros past them.
@@ -77,9 +77,9 @@ fn renumber(numbers: &mut [u32], n: usize, new: &[u32])
         (fours.renumbered_fours new.now (records four n numbers.old)) }
 {
     let end = n - 1;
-    let mut last = four_at(&*numbers, 0).3;
+    let mut last = record_at::<Four>(&*numbers, 0).3;
     for i in 0..end {
-        last = get(new, four_at(&*numbers, i).3 as usize);
+        last = get(new, record_at::<Four>(&*numbers, i).3 as usize);
         put_number(&mut *numbers, i, last);
     }
     put_number(&mut *numbers, end, last);

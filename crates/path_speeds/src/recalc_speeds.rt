@@ -12,7 +12,7 @@ ghost use Rattle.path_speeds.specs.Recalc as spec;
 
 use crate::add_speeds::{lay_links, points_count, points_finite};
 use column::Two;
-use column::floats::put_two;
+use column::put_record;
 use link::train_params::TrainParams;
 use path::answer::{asked, asked_each, path_answer};
 use path::finite::train_finite;
@@ -146,9 +146,9 @@ fn lay_anew(
         (spec.laid_anew train own.0 (speed_sets sets.now codes.now values.now limits.now)
         (up_from (point_at offsets.now numbers.now) 0 count) (point_at offsets.now numbers.now 0)) }
 {
-    let begin = column::floats::get(offsets, 0);
-    column::floats::zero_from(&mut *speeds, 0);
-    put_two(&mut *speeds, 0, Two(begin, train.speed_max.0));
+    let begin = column::get(offsets, 0);
+    column::zero_from(&mut *speeds, 0);
+    put_record(&mut *speeds, 0, Two(begin, train.speed_max.0));
     lay_links(
         &mut *speeds,
         1,

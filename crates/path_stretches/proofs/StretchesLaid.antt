@@ -12,7 +12,7 @@ use Rattle.column.specs.Entries.{filled}
 use Rattle.column.specs.Records.{flat, record_at, put_record}
 use Rattle.column.specs.declared.Three.{Three}
 use Rattle.column.proofs.Filling.{get_d-within}
-use Rattle.column.proofs.Entry.{three-entries, three-put}
+use Rattle.column.proofs.ByEntry.{three-entries, three-put}
 use Rattle.column.proofs.Bridge.{length-records, read-filled, put-filled, push-filled}
 use Rattle.lookup.specs.declared.path_res_coeff.PathResCoeff.{PathResCoeff}
 use Rattle.lookup.specs.Coeff.{triple, coeffs, no_coeff, res_coeff_record, stands_at, coefficient_of, net_of}

@@ -67,8 +67,8 @@ pub fn lay_powers(
     while k < count {
         let l = placed_power(base, power_limit_at(link_powers, link_districts, first + k));
         let t = Three(l.offset_start.0, l.offset_end.0, l.power_limit.0);
-        column::floats::put_three(&mut *powers, m + k, t);
-        column::words::set(&mut *districts, m + k, l.district_id);
+        column::put_record(&mut *powers, m + k, t);
+        column::set(&mut *districts, m + k, l.district_id);
         k += 1;
     }
 }

@@ -87,7 +87,7 @@ pub fn course_behind(
 fn lost(out: i32, x: Length, v: f64, boards: &Boards, tags: &Tags, n: usize) {
     let i = lowest_below(boards, tags, n, x.0, v);
     if i < n {
-        let t = column::floats::two_at(tags, i);
+        let t = column::record_at::<column::Two>(tags, i);
         put(out, b": it loses a limit, ");
         put_real(out, t.0);
         put(out, b" of link ");

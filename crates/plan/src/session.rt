@@ -103,7 +103,7 @@ fn told_change(out: i32, kind: u32, before: PathTpc, p: PathTpc, offsets: &[f64]
         put(out, b", the path has links: ");
         put_count(out, last_of(p.link_count));
         put(out, b", it ends at ");
-        put_real(out, column::floats::get(offsets, last_of(p.link_count)));
+        put_real(out, column::get(offsets, last_of(p.link_count)));
     }
     if kind == CLEAR {
         put(out, b", links left: ");
@@ -111,7 +111,7 @@ fn told_change(out: i32, kind: u32, before: PathTpc, p: PathTpc, offsets: &[f64]
         put(out, b" of ");
         put_count(out, last_of(before.link_count));
         put(out, b", the path begins at ");
-        put_real(out, column::floats::get(offsets, 0));
+        put_real(out, column::get(offsets, 0));
     }
     put(out, b"\n");
 }
@@ -389,7 +389,7 @@ fn compared(
     if !drops(kind, before, p) {
         return;
     }
-    let x = column::floats::get(offsets, 0);
+    let x = column::get(offsets, 0);
     let r = posted_speed(
         p,
         Length(x),
@@ -461,7 +461,7 @@ fn followed(
     course_behind(
         kind,
         course,
-        Length(column::floats::get(offsets, 0)),
+        Length(column::get(offsets, 0)),
         Velocity(train.speed_max.0),
         from,
         h.limits,
@@ -775,8 +775,8 @@ fn result(
     picture(
         name,
         train,
-        column::floats::get(offsets, 0),
-        column::floats::get(offsets, last_of(p.link_count)),
+        column::get(offsets, 0),
+        column::get(offsets, last_of(p.link_count)),
         speeds,
         p.speed_count,
         boards,

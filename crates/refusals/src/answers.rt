@@ -40,7 +40,7 @@ pub fn reals(name: &[u8], col: &[f64]) {
     let mut i = 0;
     while i < col.len() {
         say(b" ");
-        show::number(column::floats::get(col, i));
+        show::number(column::get(col, i));
         i += 1;
     }
 }
@@ -49,7 +49,7 @@ pub fn wholes(name: &[u8], col: &[u32]) {
     say(name);
     let mut i = 0;
     while i < col.len() {
-        count(column::words::get(col, i) as usize);
+        count(column::get(col, i) as usize);
         i += 1;
     }
 }

@@ -57,7 +57,7 @@ fn reals(name: &[u8], col: &[f64], n: usize) {
     say(name);
     let mut i = 0;
     while i < n {
-        real(column::floats::get(col, i));
+        real(column::get(col, i));
         i += 1;
     }
     end();
@@ -97,11 +97,11 @@ fn limits(powers: &[f64], districts: &[u32], n: usize) {
     say(b"powers");
     let mut i = 0;
     while i < n {
-        let t = column::floats::three_at(powers, i);
+        let t = column::record_at::<column::Three>(powers, i);
         real(t.0);
         real(t.1);
         real(t.2);
-        whole(column::words::get(districts, i) as u64);
+        whole(column::get(districts, i) as u64);
         i += 1;
     }
     end();
@@ -111,7 +111,7 @@ fn limits(powers: &[f64], districts: &[u32], n: usize) {
 fn zero_floats(col: &[f64], from: usize) -> bool {
     let mut i = from;
     while i < col.len() {
-        if bits(column::floats::get(col, i)) != 0 {
+        if bits(column::get(col, i)) != 0 {
             return false;
         }
         i += 1;
@@ -122,7 +122,7 @@ fn zero_floats(col: &[f64], from: usize) -> bool {
 fn zero_numbers(col: &[u32], from: usize) -> bool {
     let mut i = from;
     while i < col.len() {
-        if column::words::get(col, i) != 0 {
+        if column::get(col, i) != 0 {
             return false;
         }
         i += 1;

@@ -67,35 +67,35 @@ fn set_entry(i: usize, p: usize) -> usize
 
 // One more in entry k.
 fn bump(col: &mut [u32], k: usize) {
-    let n = more(column::words::get(&*col, k));
-    column::words::set(&mut *col, k, n);
+    let n = more(column::get(&*col, k));
+    column::set(&mut *col, k, n);
 }
 
 // Where the records of a link begin in the pools; there are none yet.
 fn put_firsts(h: Here, links: &mut [u32]) {
     let k = link_entry(h.link);
-    column::words::set(&mut *links, k + 5, h.elevs);
-    column::words::set(&mut *links, k + 7, h.headings);
-    column::words::set(&mut *links, k + 9, h.powers);
+    column::set(&mut *links, k + 5, h.elevs);
+    column::set(&mut *links, k + 7, h.headings);
+    column::set(&mut *links, k + 9, h.powers);
 }
 
 // The numbers of a link and of its neighbours.
 fn put_link(text: &[u8], at: usize, h: Here, links: &mut [u32]) {
     let k = link_entry(h.link);
-    column::words::set(&mut *links, k, count_at(text, at, 1));
-    column::words::set(&mut *links, k + 1, count_at(text, at, 3));
-    column::words::set(&mut *links, k + 2, count_at(text, at, 4));
-    column::words::set(&mut *links, k + 3, count_at(text, at, 5));
-    column::words::set(&mut *links, k + 4, count_at(text, at, 6));
+    column::set(&mut *links, k, count_at(text, at, 1));
+    column::set(&mut *links, k + 1, count_at(text, at, 3));
+    column::set(&mut *links, k + 2, count_at(text, at, 4));
+    column::set(&mut *links, k + 3, count_at(text, at, 5));
+    column::set(&mut *links, k + 4, count_at(text, at, 6));
 }
 
 // A set, with no conditions and no limits yet.
 fn put_set(text: &[u8], at: usize, h: Here, sets: &mut [u32]) {
     let k = set_entry(h.link, h.place);
-    column::words::set(&mut *sets, k, 1);
-    column::words::set(&mut *sets, k + 1, head_code(bytes_at(text, at, 2)));
-    column::words::set(&mut *sets, k + 2, h.conditions);
-    column::words::set(&mut *sets, k + 4, h.limits);
+    column::set(&mut *sets, k, 1);
+    column::set(&mut *sets, k + 1, head_code(bytes_at(text, at, 2)));
+    column::set(&mut *sets, k + 2, h.conditions);
+    column::set(&mut *sets, k + 4, h.limits);
 }
 
 // A line of a link or of a set: its numbers go into the columns, and its record counts for the link or the set.
@@ -111,7 +111,7 @@ fn put_in_links(
     if kind == LINK {
         put_link(text, at, h, &mut *links);
         put_firsts(h, &mut *links);
-        column::floats::set(&mut *lengths, h.link, float_at(text, at, 2));
+        column::set(&mut *lengths, h.link, float_at(text, at, 2));
     } else if kind == ELEV {
         bump(&mut *links, link_entry(h.link) + 6);
     } else if kind == HEADING {
@@ -154,24 +154,24 @@ fn put_in_pools(
     link_districts: &mut [u32],
 ) {
     if kind == ELEV {
-        column::floats::put_two(&mut *elevs, h.elevs as usize, pair_at(text, at));
+        column::put_record(&mut *elevs, h.elevs as usize, pair_at(text, at));
     } else if kind == HEADING {
-        column::floats::put_two(&mut *headings, h.headings as usize, pair_at(text, at));
+        column::put_record(&mut *headings, h.headings as usize, pair_at(text, at));
     } else if kind == LIMIT {
-        column::floats::put_three(&mut *limits, h.limits as usize, triple_at(text, at));
+        column::put_record(&mut *limits, h.limits as usize, triple_at(text, at));
     } else if kind == WHEN {
         let k = h.conditions as usize;
-        column::words::set(&mut *codes, 2 * k, figure_code(bytes_at(text, at, 1)));
-        column::words::set(
+        column::set(&mut *codes, 2 * k, figure_code(bytes_at(text, at, 1)));
+        column::set(
             &mut *codes,
             2 * k + 1,
             comparison_code(bytes_at(text, at, 2)),
         );
-        column::floats::set(&mut *values, k, float_at(text, at, 3));
+        column::set(&mut *values, k, float_at(text, at, 3));
     } else if kind == POWER {
         let k = h.powers as usize;
-        column::floats::put_three(&mut *link_powers, k, triple_at(text, at));
-        column::words::set(&mut *link_districts, k, count_at(text, at, 4));
+        column::put_record(&mut *link_powers, k, triple_at(text, at));
+        column::set(&mut *link_districts, k, count_at(text, at, 4));
     }
 }
 

@@ -122,7 +122,7 @@ fn posted(
 fn records(out: i32, col: &[f64], from: usize, to: usize) {
     let mut i = from;
     while i < to {
-        let g = column::floats::three_at(col, i);
+        let g = column::record_at::<column::Three>(col, i);
         put_real_in(out, g.0, 12);
         put_real_in(out, g.1 * 1000.0, 12);
         put(out, b" per mille");
@@ -138,12 +138,12 @@ pub fn list_powers(out: i32, powers: &[f64], districts: &[u32], n: usize) {
     put(out, b" power limits\n");
     let mut i = 0;
     while i < n {
-        let w = column::floats::three_at(powers, i);
+        let w = column::record_at::<column::Three>(powers, i);
         put_real_in(out, w.0, 12);
         put_real_in(out, w.1, 12);
         put_real_in(out, w.2, 14);
         put(out, b" W  district ");
-        put_count(out, column::words::get(districts, i) as usize);
+        put_count(out, column::get(districts, i) as usize);
         put(out, b"\n");
         i += 1;
     }

@@ -23,10 +23,10 @@ fn point(p: Two) {
 // Point i of a column, or, where it is no column of points, entry i.
 fn entry(col: &[f64], i: usize, pairs: bool) {
     if pairs {
-        point(column::floats::two_at(col, i));
+        point(column::record_at::<column::Two>(col, i));
     } else {
         say(b" ");
-        number(column::floats::get(col, i));
+        number(column::get(col, i));
     }
 }
 
@@ -50,7 +50,7 @@ fn lay(col: &mut [f64], n: usize, l: SpeedLimit) -> usize {
     if col.len() / 2 - n < 2 {
         return n;
     }
-    column::floats::zero_from(&mut *col, 2 * n);
+    column::zero_from(&mut *col, 2 * n);
     insert_speed(&mut *col, n, l)
 }
 

@@ -11,7 +11,7 @@ use Rattle.column.specs.declared.Two.{Two}
 use Rattle.column.specs.Entries.{filled, zero_from, move_front, open_gap, close_gap, insert_at, remove_at}
 use Rattle.column.specs.Records.{flat, record_at, put_record, two}
 use Rattle.column.proofs.Filling.{get_d-within, length-filled, zeros-filled}
-use Rattle.column.proofs.Entry.{two-entries, two-put}
+use Rattle.column.proofs.ByEntry.{two-entries, two-put}
 use Rattle.column.proofs.Bridge.{Lawful, length-records, length-flat, records-flat, record-at, put-filled, push-filled, insert-filled, insert-two, remove-filled, zero-filled, move-filled}
 use Rattle.speed.specs.Points.{Point, point, nowhere, offset_at, speed_at, set_speed, set_offset}
 use Rattle.speed.specs.Column.{pair, points, Holds, Leaves}

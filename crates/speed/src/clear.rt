@@ -31,7 +31,7 @@ pub fn clear_points(col: &mut [f64], n: usize, x: Length) -> usize
     ensures { Leaves col.new result (clear_points (points n col.old) x.0) }
 {
     let from = kept_from(col, n, x);
-    column::floats::move_front(&mut *col, 2 * from, 2 * n);
+    column::move_front(&mut *col, 2 * from, 2 * n);
     set_offset(col, n - from, 0, x);
     n - from
 }

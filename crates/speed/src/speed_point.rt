@@ -58,8 +58,8 @@ pub fn insert_point(col: &mut [f64], n: usize, i: usize, p: SpeedLimitPoint)
     requires holds { Holds col.old (points n col.old) }
     ensures { Holds col.new (insert_at i (point_of p) (points n col.old)) }
 {
-    column::floats::open_gap(&mut *col, 2 * i, 2 * n, 2);
-    column::floats::put_two(&mut *col, i, Two(p.offset.0, p.speed_limit.0));
+    column::open_gap(&mut *col, 2 * i, 2 * n, 2);
+    column::put_record(&mut *col, i, Two(p.offset.0, p.speed_limit.0));
 }
 
 // Puts two points in at i, p before q.
@@ -69,9 +69,9 @@ pub fn insert_two(col: &mut [f64], n: usize, i: usize, p: SpeedLimitPoint, q: Sp
     requires holds { Holds col.old (points n col.old) }
     ensures { Holds col.new (insert_at i (point_of p) (insert_at i (point_of q) (points n col.old))) }
 {
-    column::floats::open_gap(&mut *col, 2 * i, 2 * n, 4);
-    column::floats::put_two(&mut *col, i, Two(p.offset.0, p.speed_limit.0));
-    column::floats::put_two(&mut *col, i + 1, Two(q.offset.0, q.speed_limit.0));
+    column::open_gap(&mut *col, 2 * i, 2 * n, 4);
+    column::put_record(&mut *col, i, Two(p.offset.0, p.speed_limit.0));
+    column::put_record(&mut *col, i + 1, Two(q.offset.0, q.speed_limit.0));
 }
 
 // Takes point i out.
@@ -80,7 +80,7 @@ pub fn remove_point(col: &mut [f64], n: usize, i: usize)
     requires holds { Holds col.old (points n col.old) }
     ensures { Holds col.new (remove_at i (points n col.old)) }
 {
-    column::floats::close_gap(&mut *col, 2 * i, 2 * n, 2);
+    column::close_gap(&mut *col, 2 * i, 2 * n, 2);
 }
 
 // Whether there is a point before i, and its speed equals w.

@@ -27,7 +27,7 @@ fn point_behind(offsets: &[f64], numbers: &[u32], n: usize, x: Length) -> LinkPo
 {
     let mut i = n - 1;
     while 0 < i {
-        if !(x.0 < column::floats::get(offsets, i)) {
+        if !(x.0 < column::get(offsets, i)) {
             return link_point_at(offsets, numbers, i);
         }
         i -= 1;
@@ -40,7 +40,7 @@ fn not_before_path(s: TrainState, offsets: &[f64], numbers: &[u32], n: usize) ->
     requires { 0 < n }
     ensures { result ≡ spec.not_before_path s (link_points n offsets.now numbers.now) }
 {
-    let first = column::floats::get(offsets, 0);
+    let first = column::get(offsets, 0);
     (first <= s.offset.0) & (first <= s.offset_back.0)
 }
 

@@ -7,7 +7,7 @@ use Rattle.ieee.specs.Number.{+0}
 use Rattle.column.specs.declared.Two.{Two}
 use Rattle.column.specs.declared.Three.{Three}
 use Rattle.column.specs.Records.{Layout, record_at, put_record, three, two}
-use Rattle.column.proofs.Entry.{two-entries, three-entries}
+use Rattle.column.proofs.ByEntry.{two-entries, three-entries}
 use Rattle.link.specs.Lists.{up_from}
 use Rattle.link.proofs.Loops.{length-range, range_at, take_range, range_last}
 use Rattle.view.specs.History.{Laid, laid_from, laid_at, laid_up_to, room, with_more}

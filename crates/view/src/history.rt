@@ -52,8 +52,8 @@ fn put_limit(boards: &mut [f64], tags: &mut [f64], n: usize, b: Three, t: Two) -
 {
     let most = room(&*boards, &*tags);
     if n < most {
-        column::floats::put_three(&mut *boards, n, b);
-        column::floats::put_two(&mut *tags, n, t);
+        column::put_record(&mut *boards, n, b);
+        column::put_record(&mut *tags, n, t);
         return n + 1;
     }
     most

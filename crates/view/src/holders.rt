@@ -17,8 +17,8 @@ pub enum Held {
 fn holds(boards: &[f64], tags: &[f64], i: usize, x: f64, v: f64) -> bool
     ensures { result ≡ spec.holds boards.now tags.now x v i }
 {
-    let b = column::floats::three_at(boards, i);
-    let t = column::floats::two_at(tags, i);
+    let b = column::record_at::<column::Three>(boards, i);
+    let t = column::record_at::<column::Two>(tags, i);
     ((b.0 <= x) & (x < b.2)) & (ieee::size(t.0) == ieee::size(v))
 }
 
@@ -57,8 +57,8 @@ fn next_start(boards: &[f64], tags: &[f64], n: usize, x: f64, to: f64, v: f64) -
     let mut first = to;
     let mut i = 0;
     while i < n {
-        let start = column::floats::three_at(boards, i).0;
-        let speed = column::floats::two_at(tags, i).0;
+        let start = column::record_at::<column::Three>(boards, i).0;
+        let speed = column::record_at::<column::Two>(tags, i).0;
         if (x < start) & (ieee::size(speed) == ieee::size(v)) {
             first = lesser(first, start);
         }
@@ -74,7 +74,7 @@ pub fn piece_end(boards: &[f64], tags: &[f64], n: usize, x: f64, to: f64, v: f64
     let Held::Limit(i) = held else {
         return next_start(boards, tags, n, x, to, v);
     };
-    let b = column::floats::three_at(boards, i);
+    let b = column::record_at::<column::Three>(boards, i);
     if x < b.1 {
         return lesser(lesser(b.1, to), b.2);
     }
@@ -85,8 +85,8 @@ pub fn piece_end(boards: &[f64], tags: &[f64], n: usize, x: f64, to: f64, v: f64
 fn below(boards: &[f64], tags: &[f64], i: usize, x: f64, v: f64) -> bool
     ensures { result ≡ spec.below boards.now tags.now x v i }
 {
-    let b = column::floats::three_at(boards, i);
-    let t = column::floats::two_at(tags, i);
+    let b = column::record_at::<column::Three>(boards, i);
+    let t = column::record_at::<column::Two>(tags, i);
     ((b.0 <= x) & (x < b.2)) & (ieee::size(t.0) < ieee::size(v))
 }
 
@@ -100,7 +100,7 @@ pub fn lowest_below(boards: &[f64], tags: &[f64], n: usize, x: f64, v: f64) -> u
     while i < n {
         if below(boards, tags, i, x, speed) {
             found = i;
-            speed = column::floats::two_at(tags, i).0;
+            speed = column::record_at::<column::Two>(tags, i).0;
         }
         i += 1;
     }

@@ -23,8 +23,8 @@ fn bar(f: Frame, from: f64, to: f64, v: f64) {
 fn bars(f: Frame, tail: bool, boards: &[f64], tags: &[f64], n: usize) {
     let mut i = 0;
     while i < n {
-        let b = column::floats::three_at(boards, i);
-        let v = column::floats::two_at(tags, i).0;
+        let b = column::record_at::<column::Three>(boards, i);
+        let v = column::record_at::<column::Two>(tags, i).0;
         if tail {
             bar(f, b.1, b.2, v);
         } else {
@@ -80,7 +80,7 @@ fn borders(f: Frame, col: &[f64], n: usize) {
     let mut drawn = 0.0;
     let mut i = 0;
     while i < n {
-        let x = across(f, column::floats::two_at(col, i).0);
+        let x = across(f, column::record_at::<column::Two>(col, i).0);
         if drawn + 2.0 <= x {
             border_at(f, x, n);
             drawn = x;
@@ -109,9 +109,9 @@ fn number(x: f64, width: f64, n: f64) {
 fn numbers(f: Frame, col: &[f64], n: usize) {
     let mut i = 0;
     while i < n {
-        let b = column::floats::two_at(col, i);
+        let b = column::record_at::<column::Two>(col, i);
         let end = if i + 1 < n {
-            column::floats::two_at(col, i + 1).0
+            column::record_at::<column::Two>(col, i + 1).0
         } else {
             f.last
         };
@@ -123,10 +123,10 @@ fn numbers(f: Frame, col: &[f64], n: usize) {
 
 // The place of the speed posted where the path begins.
 fn beginning(f: Frame, speeds: &[f64], n: usize) -> f64 {
-    let mut y = up(f, column::floats::two_at(speeds, 0).1);
+    let mut y = up(f, column::record_at::<column::Two>(speeds, 0).1);
     let mut i = 0;
     while i < n {
-        let p = column::floats::two_at(speeds, i);
+        let p = column::record_at::<column::Two>(speeds, i);
         if p.0 <= f.begin {
             y = up(f, p.1);
         }
@@ -141,7 +141,7 @@ fn steps(f: Frame, speeds: &[f64], n: usize) {
     point(b"M", across(f, f.begin), beginning(f, speeds, n));
     let mut i = 0;
     while i < n {
-        let p = column::floats::two_at(speeds, i);
+        let p = column::record_at::<column::Two>(speeds, i);
         if (f.begin < p.0) & (p.0 < f.last) {
             toward(b"H", across(f, p.0));
             toward(b"V", up(f, p.1));
@@ -171,7 +171,7 @@ fn heights(f: Frame, col: &[f64], n: usize) {
     let mut goes_on = false;
     let mut i = 0;
     while i < n {
-        let h = column::floats::two_at(col, i);
+        let h = column::record_at::<column::Two>(col, i);
         goes_on = vertex(f, h.0, h.1, goes_on);
         i += 1;
     }
@@ -184,7 +184,7 @@ fn reaching(f: Frame, col: &[f64], n: usize) -> Frame {
     let mut high = -low;
     let mut i = 0;
     while i < n {
-        let h = column::floats::two_at(col, i).1;
+        let h = column::record_at::<column::Two>(col, i).1;
         low = lesser(low, h);
         high = larger(high, h);
         i += 1;

@@ -19,7 +19,7 @@ pub fn add_borders(
     let mut k = from;
     while k < to {
         let p = link_point_at(offsets, numbers, k);
-        column::floats::put_two(&mut *borders, m, Two(p.offset.0, p.link_idx as f64));
+        column::put_record(&mut *borders, m, Two(p.offset.0, p.link_idx as f64));
         m = next(m, borders.len() / 2);
         k += 1;
     }
@@ -44,11 +44,11 @@ fn add_samples(
     let mut k = first;
     while k < end {
         let e = elev_at(elevs, k);
-        column::floats::put_two(&mut *heights, m, Two(base.0 + e.offset.0, e.elev.0));
+        column::put_record(&mut *heights, m, Two(base.0 + e.offset.0, e.elev.0));
         m = next(m, heights.len() / 2);
         k += 1;
     }
-    column::floats::put_two(&mut *heights, m, Two(base.0, broken()));
+    column::put_record(&mut *heights, m, Two(base.0, broken()));
     next(m, heights.len() / 2)
 }
 

@@ -6,14 +6,14 @@ use si::Velocity;
 // The link of limit i.
 fn link_of(tags: &[f64], i: usize) {
     say(b"link ");
-    real(column::floats::two_at(tags, i).1);
+    real(column::record_at::<column::Two>(tags, i).1);
 }
 
 // What holds a row that begins at x: a limit by its board or its tail, or the top speed.
 fn reason(boards: &[f64], tags: &[f64], held: Held, x: f64) {
     match held {
         Held::Limit(i) => {
-            if x < column::floats::three_at(boards, i).1 {
+            if x < column::record_at::<column::Three>(boards, i).1 {
                 say(b"limit of ");
             } else {
                 say(b"tail of the limit of ");
@@ -69,9 +69,9 @@ pub fn table(speeds: &[f64], count: usize, boards: &[f64], tags: &[f64], n: usiz
     say(b"      from        to   speed  held by\n");
     let mut k = 0;
     while k < count {
-        let p = column::floats::two_at(speeds, k);
+        let p = column::record_at::<column::Two>(speeds, k);
         let to = if k + 1 < count {
-            column::floats::two_at(speeds, k + 1).0
+            column::record_at::<column::Two>(speeds, k + 1).0
         } else {
             endless()
         };

@@ -2,4 +2,4 @@
 use Rattle.link.proofs.cat_power.power_limit_at.Goals as goal
 
 pub returns : goal.returns
-returns c = rw (c.three_at-t.ensures, c.get.ensures)
+returns c = rw (c.record_at-t.ensures, c.get.ensures)

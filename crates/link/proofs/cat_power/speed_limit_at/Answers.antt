@@ -7,4 +7,4 @@ pub returns-then-i-limits : goal.returns-then-i-limits
 returns-then-i-limits c = limit-read c.args.limits.now c.args.i _ (omega arith)
 
 pub returns : goal.returns
-returns c = rw c.three_at-t.ensures
+returns c = rw c.record_at-t.ensures

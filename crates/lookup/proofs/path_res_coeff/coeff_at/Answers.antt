@@ -4,4 +4,4 @@ use Rattle.lookup.proofs.path_res_coeff.coeff_at.Goals as goal
 
 pub returns : goal.returns
 unfolding record_at
-returns c = rw c.three_at-t.ensures
+returns c = rw c.record_at-t.ensures

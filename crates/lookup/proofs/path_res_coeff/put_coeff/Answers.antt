@@ -4,4 +4,4 @@ use Rattle.lookup.proofs.path_res_coeff.put_coeff.Goals as goal
 
 pub returns : goal.returns
 unfolding put_record
-returns c = c.put_three.ensures
+returns c = c.put_record.ensures

@@ -11,4 +11,4 @@ returns-then-col-lt2 c =
 pub returns : goal.returns
 returns c =
     let a = c.args in
-    begun a.x.0 a.top.0 a.col.now c.zero_from.ensures (omega (arith, c.zero_from.auto.col)) c.put_two.ensures
+    begun a.x.0 a.top.0 a.col.now c.zero_from.ensures (omega (arith, c.zero_from.auto.col)) c.put_record.ensures

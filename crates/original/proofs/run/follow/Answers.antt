@@ -38,5 +38,5 @@ returns c =
     let ps = points a.m a.col.now in
     let l = length-points a.m a.col.now in
     leaves_at c.insert_as_original.new.col c.insert_as_original.result _ _ c.insert_as_original.ensures
-    (ap₂ (λ (b : Three) (t : Two). insert_original ps b.0 b.2 t.0) c.three_at-b.ensures c.two_at-t.ensures
+    (ap₂ (λ (b : Three) (t : Two). insert_original ps b.0 b.2 t.0) c.record_at-b.ensures c.record_at-t.ensures
     ∙ sym (follow_one (length a.col.now) ps _ _ _ (omega arith) (omega arith)))

@@ -22,4 +22,4 @@ returns c =
     let a = c.args in
     let l = columns a.offsets.now a.numbers.now a.grades.now a.curves.now a.speeds.now a.powers.now a.districts.now in
     made_by a.train l c.train_finite.ensures c.if-not-train_finite.false c.start_record-path.ensures c.within_bounds.ensures c.if-not-within_bounds.false
-    c.zero_from.ensures c.zero_from-2.ensures c.zero_from-3.ensures c.zero_from-4.ensures c.zero_from-5.ensures c.put_two.ensures c.zero_from-6.ensures c.zero_from-7.ensures
+    c.zero_from.ensures c.zero_from-2.ensures c.zero_from-3.ensures c.zero_from-4.ensures c.zero_from-5.ensures c.put_record.ensures c.zero_from-6.ensures c.zero_from-7.ensures

@@ -16,10 +16,10 @@ loop-k-preserved c =
     let a = c.args in
     let l = c.loop-k in
     let at = power_at a.link_powers.now a.link_districts.now in
-    let wn = c.put_three.auto.col in
+    let wn = c.put_record.auto.col in
     let dn = c.set.auto.col in
     let placed = c.placed_power-l.ensures ∙ ap (placed_power a.base.0) c.power_limit_at.ensures in
-    let next = push-next (placed_power a.base.0) at a.first a.m a.powers.now a.districts.now l.k (power_of c.placed_power-l.result) l.invariant.3 placed (omega (arith, c.requires.count_bound_2)) (omega (arith, c.requires.count_bound_3)) wn dn c.put_three.ensures c.set.ensures in
+    let next = push-next (placed_power a.base.0) at a.first a.m a.powers.now a.districts.now l.k (power_of c.placed_power-l.result) l.invariant.3 placed (omega (arith, c.requires.count_bound_2)) (omega (arith, c.requires.count_bound_3)) wn dn c.put_record.ensures c.set.ensures in
     (omega arith, wn ∙ l.invariant.1, dn ∙ l.invariant.2, next)
 
 pub shape_of-powers : goal.shape_of-powers

@@ -7,4 +7,4 @@ pub returns : goal.returns
 returns c =
     let a = c.args in
     let r : Two = record { 0 = a.p.offset.0; 1 = a.p.speed_limit.0 } in
-    rw (c.put_two.ensures, c.open_gap.ensures) (inserted a.col.now a.n c.requires.holds a.i r c.requires.i_le_n c.requires.n_in_bounds)
+    rw (c.put_record.ensures, c.open_gap.ensures) (inserted a.col.now a.n c.requires.holds a.i r c.requires.i_le_n c.requires.n_in_bounds)

@@ -8,4 +8,4 @@ returns c =
     let a = c.args in
     let r : Two = record { 0 = a.p.offset.0; 1 = a.p.speed_limit.0 } in
     let t : Two = record { 0 = a.q.offset.0; 1 = a.q.speed_limit.0 } in
-    rw (c.put_two-2.ensures, c.put_two.ensures, c.open_gap.ensures) (two-inserted a.col.now a.n c.requires.holds a.i r t c.requires.i_le_n c.requires.n_in_bounds)
+    rw (c.put_record-2.ensures, c.put_record.ensures, c.open_gap.ensures) (two-inserted a.col.now a.n c.requires.holds a.i r t c.requires.i_le_n c.requires.n_in_bounds)

@@ -8,7 +8,7 @@ use Rattle.view.proofs.history.put_limit.Goals as goal
 pub returns-then-n-most : goal.returns-then-n-most
 returns-then-n-most c =
     let a = c.args in
-    ap₂ (λ (bs ts : List Float). laid_up_to bs ts (a.n + 1)) c.put_three.ensures c.put_two.ensures
+    ap₂ (λ (bs ts : List Float). laid_up_to bs ts (a.n + 1)) c.put_record.ensures c.put_record-then-n-most.ensures
     ∙ laid-put a.boards.now a.tags.now a.n a.b a.t (rw c.room-most.ensures at c.if-n-most.true)
 
 pub returns : goal.returns

@@ -19,7 +19,7 @@ loop-i-preserved c =
       | then-below w ↦ (
         omega arith,
         w.found-is ∙ lowest-here a.boards.now a.tags.now a.n a.x a.v o.i o.found o.speed o.invariant.1 o.invariant.2 (sym b ∙ w.if-below.true),
-        w.speed-is ∙ ap (λ (t : Two). t.0) w.two_at-speed.ensures ∙ sym (speed-some a.tags.now a.n a.v o.i c.loop-i-test.true) ∙ ap (speed_or a.tags.now a.n a.v) (sym w.found-is),
+        w.speed-is ∙ ap (λ (t : Two). t.0) w.record_at-speed.ensures ∙ sym (speed-some a.tags.now a.n a.v o.i c.loop-i-test.true) ∙ ap (speed_or a.tags.now a.n a.v) (sym w.found-is),
       )
       | else-below w ↦ (
         omega arith,

@@ -13,8 +13,8 @@ unfolding next_start
 loop-i-preserved c = (
   omega arith,
   elim c.if-x-start.branch [
-    | then-x-start w ↦ w.first-is ∙ w.lesser-first.ensures ∙ rw (add-one c.loop-i.i, ← c.three_at-start.ensures, ← c.two_at-speed.ensures, ← c.size.ensures, ← c.size-in-loop-i.ensures, w.if-x-start.true, ← c.loop-i.invariant.1)
-    | else-x-start w ↦ w.first-is ∙ rw (add-one c.loop-i.i, ← c.three_at-start.ensures, ← c.two_at-speed.ensures, ← c.size.ensures, ← c.size-in-loop-i.ensures, w.if-x-start.false, ← c.loop-i.invariant.1)
+    | then-x-start w ↦ w.first-is ∙ w.lesser-first.ensures ∙ rw (add-one c.loop-i.i, ← c.record_at-start.ensures, ← c.record_at-speed.ensures, ← c.size.ensures, ← c.size-in-loop-i.ensures, w.if-x-start.true, ← c.loop-i.invariant.1)
+    | else-x-start w ↦ w.first-is ∙ rw (add-one c.loop-i.i, ← c.record_at-start.ensures, ← c.record_at-speed.ensures, ← c.size.ensures, ← c.size-in-loop-i.ensures, w.if-x-start.false, ← c.loop-i.invariant.1)
   ],
 )
 

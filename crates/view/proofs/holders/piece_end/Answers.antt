@@ -18,8 +18,8 @@ returns-in_default c = c.next_start.ensures ∙ other _ _ _ _ _ _ _ c.in_default
 
 pub returns-then-x-b : goal.returns-then-x-b
 unfolding piece_end
-returns-then-x-b c = rw (c.in-Limit.is, ← c.three_at-b.ensures, c.if-x-b.true, ← c.lesser.ensures) c.lesser-then-x-b.ensures
+returns-then-x-b c = rw (c.in-Limit.is, ← c.record_at-b.ensures, c.if-x-b.true, ← c.lesser.ensures) c.lesser-then-x-b.ensures
 
 pub returns : goal.returns
 unfolding piece_end
-returns c = rw (c.in-Limit.is, ← c.three_at-b.ensures, c.if-x-b.false) c.lesser-2.ensures
+returns c = rw (c.in-Limit.is, ← c.record_at-b.ensures, c.if-x-b.false) c.lesser-2.ensures
