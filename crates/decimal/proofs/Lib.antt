@@ -1,10 +1,8 @@
 -- Laws of the definitions.
-pub mod Bytes
 pub mod Texts
 pub mod DigitSteps
 pub mod Quotient
 pub mod Patterns
-pub mod Answers
-pub mod Faults
+pub mod Points
 pub mod FaultLaws
 pub mod Samples

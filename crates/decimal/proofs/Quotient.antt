@@ -1,5 +1,5 @@
 -- A whole number over a power of ten: both are f64s, so their quotient is the fraction, rounded once.
-use Rattle.std.proofs.Common.{◌≡◌, ℕ, suc, ◌+◌, ◌-◌, ◌*◌, ◌^◌, ◌<◌, ◌≤◌, Bool, true, false, cond, not, ◌&&◌, T, eqb, pos, sym, ap, ◌∙◌, subst, ap₂, inl, inr, lt_of_lt_of_le, zero-lt-suc, mul_assoc, mul_comm, mul-pos, zero-mul, mul-one, sub-add_cancel, mul_left_comm, arith, lit≤, le→leb, eqb→eq, pow_pos, pow_mono, pow-add, shl_lt}
+use Rattle.std.proofs.Common.{◌≡◌, ℕ, suc, ◌+◌, ◌-◌, ◌*◌, ◌^◌, ◌<◌, ◌≤◌, Bool, true, false, cond, not, T, Some, eqb, pos, sym, ap, ◌∙◌, subst, ap₂, inl, inr, lt_of_lt_of_le, zero-lt-suc, mul_assoc, mul_comm, mul-pos, zero-mul, mul-one, sub-add_cancel, mul_left_comm, arith, lit≤, le→leb, eqb→eq, pow_pos, pow_mono, pow-add, shl_lt}
 use native.Mathlib.Nat.{pow-le-pow_right, one-le-pow}
 use lib.Dec.{not_T}
 use lib.Ieee.{Float, nan, inf, fin, Format, binary64, low, emax, up, down, unlike, round, neg, div, of_int, in_float}
@@ -10,10 +10,8 @@ use lib.Ieee.Fits.{down_pos}
 use lib.Ieee.Scale.{round_same}
 use Rattle.ieee.proofs.Round.{split, round-neg}
 use Rattle.decimal.specs.Decimal.{value_of}
-use Rattle.decimal.specs.Known.{Small, Known}
+use Rattle.decimal.specs.Known.{Small}
 use Rattle.decimal.specs.declared.decimal.Digits.{Digits}
-use Rattle.decimal.specs.declared.decimal.Reading.TheVariants.{Is, Not}
-use Rattle.decimal.proofs.Bytes.{both}
 
 -- ---- the quotient of two numbers that are not negative
 positive : (n u b d : ℕ) → 0 < b → 0 < d → n * u * 1 ≡ b * d → 0 < n * u
@@ -66,24 +64,12 @@ unfolding of_int
 value whole s k w e h =
     quotient binary64 (round binary64 false whole 1) (round binary64 false s 1) whole s (omega (arith, e, one-le-pow k 10 (zero-lt-suc 9))) (round_whole binary64 false whole w) (ten s k e h)
 
-pub in-float : (n : ℕ) → n ≤ 9007199254740992 → T (in_float binary64 (pos n))
-unfolding in_float
-in-float n h = le→leb n 9007199254740992 h
-
-pub small : (d : Digits) → Known d → (d.good && d.some) ≡ true → Small d
-small d known e = known (both d.good d.some e).0
-
-pub value_not : (negative : Bool) (d : Digits) → (d.good && d.some) ≡ false → Not ≡ value_of negative d
-value_not negative d e = rw e
-
-module _ (negative : Bool) (d : Digits) (known : Known d) (number : (d.good && d.some) ≡ true) (scale : Float) (cast : scale ≡ of_int binary64 (pos d.scale)) where
+module _ (d : Digits) (h : Small d) (some : d.some ≡ true) (scale : Float) (cast : scale ≡ of_int binary64 (pos d.scale)) where
   made : div binary64 (of_int binary64 (pos d.whole)) scale ≡ round binary64 false d.whole d.scale
-  made =
-      let h = small d known number in
-      rw cast (value d.whole d.scale h.ten.0 h.whole h.ten.1 h.scale)
+  made = rw cast (value d.whole d.scale h.ten.0 h.whole h.ten.1 h.scale)
 
-  pub value-plus : negative ≡ false → Is (div binary64 (of_int binary64 (pos d.whole)) scale) ≡ value_of negative d
-  value-plus e = rw (number, e) (ap Is made)
+  pub value-plus : Some (div binary64 (of_int binary64 (pos d.whole)) scale) ≡ value_of false d
+  value-plus = rw some (ap Some made)
 
-  pub value-minus : negative ≡ true → Is (neg (div binary64 (of_int binary64 (pos d.whole)) scale)) ≡ value_of negative d
-  value-minus e = rw (number, e) (ap Is (ap neg made ∙ sym (round-neg binary64 false d.whole d.scale)))
+  pub value-minus : Some (neg (div binary64 (of_int binary64 (pos d.whole)) scale)) ≡ value_of true d
+  value-minus = rw some (ap Some (ap neg made ∙ sym (round-neg binary64 false d.whole d.scale)))

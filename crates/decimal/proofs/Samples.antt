@@ -1,13 +1,10 @@
 -- Texts and what they are, computed.
-use Rattle.std.proofs.Common.{◌≡◌, ℕ, false, List, [] as nil, ◌∷◌ as ◌then◌, refl}
+use Rattle.std.proofs.Common.{◌≡◌, ℕ, false, List, [] as nil, ◌∷◌ as ◌then◌, refl, Option, Some, None}
 use Prim.Native.Char.{code}
 use Prim.Native.String.{String, [], ◌∷◌}
-use lib.Ieee.{nan, of_bits, binary64, round}
+use lib.Ieee.{Float, nan, of_bits, binary64, round}
 use Rattle.decimal.specs.Decimal.{read_decimal}
 use Rattle.decimal.specs.Number.{read_number, read_whole}
-use Rattle.decimal.specs.declared.decimal.Reading.{Reading}
-use Rattle.decimal.specs.declared.decimal.Reading.TheVariants.{Is, Not}
-use Rattle.decimal.specs.declared.whole.Whole.TheVariants as Wholes
 use Rattle.decimal.specs.Fault.{fault_of, whole_fault_of}
 use Rattle.decimal.specs.declared.fault.Fault.TheVariants as Faults
 use Rattle.decimal.specs.declared.fault.WholeFault.TheVariants as WholeFaults
@@ -18,8 +15,8 @@ bytes [] = nil
 bytes (c ∷ s) = code c then bytes s
 
 -- the f64 with these bits
-abbrev bits : ℕ → Reading
-bits n = Is (of_bits binary64 n)
+abbrev bits : ℕ → Option Float
+bits n = Some (of_bits binary64 n)
 
 twenty : read_number (bytes "20") ≡ bits 0x4034_0000_0000_0000
 unfolding read_number of_bits
@@ -37,15 +34,15 @@ one_and_a_half : read_number (bytes "1.5") ≡ bits 0x3ff8_0000_0000_0000
 unfolding read_number of_bits
 one_and_a_half = refl
 
-two-points : read_number (bytes "1.2.3") ≡ Not
+two-points : read_number (bytes "1.2.3") ≡ None
 unfolding read_number
 two-points = refl
 
-empty : read_number (bytes "") ≡ Not
+empty : read_number (bytes "") ≡ None
 unfolding read_number
 empty = refl
 
-point-alone : read_number (bytes ".") ≡ Not
+point-alone : read_number (bytes ".") ≡ None
 unfolding read_number
 point-alone = refl
 
@@ -54,7 +51,7 @@ largest : read_decimal (bytes "9007199254740992") ≡ bits 0x4340_0000_0000_0000
 unfolding read_decimal of_bits
 largest = refl
 
-too_large : read_decimal (bytes "9007199254740993") ≡ Not
+too_large : read_decimal (bytes "9007199254740993") ≡ None
 unfolding read_decimal
 too_large = refl
 
@@ -64,94 +61,94 @@ unfolding read_number
 bits-of-twenty = refl
 
 -- a NaN's bits
-no_number : read_number (bytes "0x7ff8000000000000") ≡ Is nan
+no_number : read_number (bytes "0x7ff8000000000000") ≡ Some nan
 unfolding read_number
 no_number = refl
 
-fifteen_digits : read_number (bytes "0x7ff800000000000") ≡ Not
+fifteen_digits : read_number (bytes "0x7ff800000000000") ≡ None
 unfolding read_number
 fifteen_digits = refl
 
 -- 16 digits without the mark: a decimal, or no number
-digits-are-decimal : read_number (bytes "1234567890123456") ≡ Is (round binary64 false 1234567890123456 1)
+digits-are-decimal : read_number (bytes "1234567890123456") ≡ Some (round binary64 false 1234567890123456 1)
 unfolding read_number round
 digits-are-decimal = refl
 
-no-mark : read_number (bytes "7ff8000000000000") ≡ Not
+no-mark : read_number (bytes "7ff8000000000000") ≡ None
 unfolding read_number
 no-mark = refl
 
 -- ---- why a text is no number
-exponent : fault_of (bytes "1e3") ≡ Faults.Exponent
+exponent : fault_of (bytes "1e3") ≡ Some Faults.Exponent
 unfolding fault_of
 exponent = refl
 
-comma : fault_of (bytes "20,5") ≡ Faults.Comma
+comma : fault_of (bytes "20,5") ≡ Some Faults.Comma
 unfolding fault_of
 comma = refl
 
-plus : fault_of (bytes "+20") ≡ Faults.Plus
+plus : fault_of (bytes "+20") ≡ Some Faults.Plus
 unfolding fault_of
 plus = refl
 
 -- one more than 2 ^ 53, and a point more
-above : fault_of (bytes "-9007199254740993") ≡ Faults.TooLarge
+above : fault_of (bytes "-9007199254740993") ≡ Some Faults.TooLarge
 unfolding fault_of
 above = refl
 
-above-with-point : fault_of (bytes "9007199254740992.5") ≡ Faults.TooLarge
+above-with-point : fault_of (bytes "9007199254740992.5") ≡ Some Faults.TooLarge
 unfolding fault_of
 above-with-point = refl
 
-nineteen-places : fault_of (bytes "0.0000000000000000001") ≡ Faults.Places
+nineteen-places : fault_of (bytes "0.0000000000000000001") ≡ Some Faults.Places
 unfolding fault_of
 nineteen-places = refl
 
-fifteen-behind-mark : fault_of (bytes "0x7ff800000000000") ≡ Faults.Bits
+fifteen-behind-mark : fault_of (bytes "0x7ff800000000000") ≡ Some Faults.Bits
 unfolding fault_of
 fifteen-behind-mark = refl
 
-sixteen-without-mark : fault_of (bytes "7ff8000000000000") ≡ Faults.NoMark
+sixteen-without-mark : fault_of (bytes "7ff8000000000000") ≡ Some Faults.NoMark
 unfolding fault_of
 sixteen-without-mark = refl
 
-word : fault_of (bytes "ten") ≡ Faults.NotNumber
+word : fault_of (bytes "ten") ≡ Some Faults.NotNumber
 unfolding fault_of
 word = refl
 
-point-and-sign : fault_of (bytes "-.") ≡ Faults.NotNumber
+point-and-sign : fault_of (bytes "-.") ≡ Some Faults.NotNumber
 unfolding fault_of
 point-and-sign = refl
 
-nothing : fault_of (bytes "") ≡ Faults.Missing
+nothing : fault_of (bytes "") ≡ Some Faults.Missing
 unfolding fault_of
 nothing = refl
 
 -- ---- whole numbers
-largest-whole : read_whole (bytes "4294967295") ≡ Wholes.Is 4294967295
+largest-whole : read_whole (bytes "4294967295") ≡ Some 4294967295
 unfolding read_whole
 largest-whole = refl
 
-too-large-whole : read_whole (bytes "4294967296") ≡ Wholes.Not
+too-large-whole : read_whole (bytes "4294967296") ≡ None
 unfolding read_whole
 too-large-whole = refl
 
-signed-whole : read_whole (bytes "-1") ≡ Wholes.Not
+signed-whole : read_whole (bytes "-1") ≡ None
 unfolding read_whole
 signed-whole = refl
 
-lettered-whole : read_whole (bytes "1a") ≡ Wholes.Not
+lettered-whole : read_whole (bytes "1a") ≡ None
 unfolding read_whole
 lettered-whole = refl
 
-above-whole : whole_fault_of (bytes "4294967296") ≡ WholeFaults.TooLarge
+above-whole : whole_fault_of (bytes "4294967296") ≡ Some WholeFaults.TooLarge
 unfolding whole_fault_of
 above-whole = refl
 
-eleven-digits : whole_fault_of (bytes "00000000001") ≡ WholeFaults.Long
+eleven-digits : whole_fault_of (bytes "00000000001") ≡ Some WholeFaults.Long
 unfolding whole_fault_of
 eleven-digits = refl
 
-signed : whole_fault_of (bytes "-1") ≡ WholeFaults.NotDigits
+signed : whole_fault_of (bytes "-1") ≡ Some WholeFaults.NotDigits
 unfolding whole_fault_of
 signed = refl

@@ -1,20 +1,23 @@
--- The bytes of a number, and the number that digits to a base write. Definitions only.
-use Rattle.std.specs.Prelude.{ℕ, ◌+◌, ◌-◌, ◌*◌, Bool, true, cond, ◌&&◌, List, [], ◌∷◌, nat_le, nat_lt}
+-- The digits of a number, and the number that digits to a base write. Definitions only.
+use Rattle.std.specs.Prelude.{ℕ, ◌+◌, ◌*◌, Bool, cond, ◌&&◌, List, Option, Some, None, fold, is_some, nat_lt}
+use Rattle.std.specs.Char.{digit_value}
+use Rattle.std.specs.List.{list_all}
 
--- 0 to 9
-abbrev pub is_digit : ℕ → Bool
-is_digit b = nat_le 48 b && nat_le b 57
+-- the value of a digit to a base, at most 16: 0 to 9, then a to f or A to F; none for any other byte
+abbrev pub digit : ℕ → ℕ → Option ℕ
+digit base b = cond (nat_lt (digit_value b) 16 && nat_lt (digit_value b) base) (Some (digit_value b)) None
 
--- a hex digit's value, 16 for any other byte
-abbrev pub hex_value : ℕ → ℕ
-hex_value b = cond (is_digit b) (b - 48) (cond (nat_le 97 b && nat_le b 102) (b - 87) (cond (nat_le 65 b && nat_le b 70) (b - 55) 16))
-
--- every byte is a digit to a base, at most 16
+-- every byte is a digit to a base
 unfoldable pub all_digits : ℕ → List ℕ → Bool
-all_digits base [] = true
-all_digits base (b ∷ l) = nat_lt (hex_value b) base && all_digits base l
+all_digits base l = list_all (λ b. is_some (digit base b)) l
 
 -- digits to a base after those that make n
 unfoldable pub whole_from : ℕ → ℕ → List ℕ → ℕ
-whole_from base n [] = n
-whole_from base n (b ∷ l) = whole_from base (base * n + hex_value b) l
+whole_from base n l = fold (λ m b. base * m + digit_value b) n l
+
+-- the number that digits to a base write; none where a byte is no digit
+abbrev pub number_from : ℕ → ℕ → List ℕ → Option ℕ
+number_from base n l = cond (all_digits base l) (Some (whole_from base n l)) None
+
+abbrev pub digits_number : ℕ → List ℕ → Option ℕ
+digits_number base l = number_from base 0 l

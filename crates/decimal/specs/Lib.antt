@@ -3,5 +3,4 @@ pub mod Digits
 pub mod Decimal
 pub mod Known
 pub mod Number
-pub mod Kinds
 pub mod Fault

@@ -1,18 +1,15 @@
 // Why a text is no number, and why it is no whole number: the first reason that holds.
-ghost use Rattle.std.specs.Prelude.{◌≡◌};
-ghost use Rattle.decimal.specs.Number.{read_number, read_whole};
+ghost use Rattle.std.specs.Prelude.{◌≡◌, position};
+ghost use Rattle.std.specs.List.{list_all};
 ghost use Rattle.decimal.specs.Fault as spec;
 
-use crate::decimal::Reading;
 use crate::digits::all_digits;
-use crate::kinds::{Kind, first, has};
-use crate::number::{has_mark, read_number};
-use crate::whole::{Whole, read_whole};
+use crate::number::{behind_mark, read_number};
+use crate::whole::read_whole;
 
 // Why a text is no number.
-#[derive(Clone, Copy)]
+#[derive(Clone, Copy, Debug, PartialEq, Eq)]
 pub enum Fault {
-    Readable, // it is one
     Missing, // no byte
     Bits, // 0x, but not 16 hex digits behind it
     Plus, // the sign +
@@ -25,85 +22,98 @@ pub enum Fault {
 }
 
 // Why a text is no whole number.
-#[derive(Clone, Copy)]
+#[derive(Clone, Copy, Debug, PartialEq, Eq)]
 pub enum WholeFault {
-    Readable, // it is one
     Missing, // no byte
     NotDigits, // a byte that is no digit
     Long, // more than ten digits
     TooLarge, // ten digits or less, and not below 2^32
 }
 
-// Whether a text is a number.
-fn is_number(text: &[u8]) -> bool
-    ensures { result ≡ spec.is_number (read_number text.now) }
-{
-    let r = read_number(text);
-    match r {
-        Reading::Is(_) => true,
-        Reading::Not => false,
-    }
-}
-
-// Whether a text is a whole number.
-fn is_whole(text: &[u8]) -> bool
-    ensures { result ≡ spec.is_whole (read_whole text.now) }
-{
-    let r = read_whole(text);
-    match r {
-        Whole::Is(_) => true,
-        Whole::Not => false,
-    }
-}
-
 // Whether a text is 16 hex digits that are not all decimal.
+#[tactic(auto, unfolding(crate::specs::Fault::is_hex))]
 fn is_hex(text: &[u8]) -> bool
     ensures { result ≡ spec.is_hex text.now }
 {
     (text.len() == 16) & (all_digits(text, 16) & !all_digits(text, 10))
 }
 
+// e or E.
+fn is_e(b: u8) -> bool
+    ensures { result ≡ spec.is_e b }
+{
+    (b == b'e') | (b == b'E')
+}
+
+// A digit, a point, a sign, e or E.
+fn is_known(b: u8) -> bool
+    ensures { result ≡ spec.is_known b }
+{
+    b.is_ascii_digit() | ((b == b'.') | ((b == b'+') | ((b == b'-') | is_e(b))))
+}
+
+// The place of the first e or E.
+fn first_e(text: &[u8]) -> Option<usize>
+    ensures { result ≡ position spec.is_e text.now }
+{
+    text.iter().position(|b| is_e(*b))
+}
+
+// Whether every byte is a digit, a point, a sign, e or E.
+fn all_known(text: &[u8]) -> bool
+    ensures { result ≡ list_all spec.is_known text.now }
+{
+    text.iter().all(|b| is_known(*b))
+}
+
 // Whether an e or E, not in first place, is among digits, points and signs.
+#[tactic(auto, unfolding(crate::specs::Fault::is_exponent))]
 fn is_exponent(text: &[u8]) -> bool
     ensures { result ≡ spec.is_exponent text.now }
 {
-    let e = first(text, Kind::Exponent);
-    ((0 < e) & (e < text.len())) & !has(text, Kind::Other)
+    first_e(text).is_some_and(|e| 0 < e) & all_known(text)
 }
 
 // What is behind the sign -.
+#[tactic(auto, unfolding(crate::specs::Fault::behind_sign))]
 fn behind_sign(text: &[u8]) -> &[u8]
     ensures { result.now ≡ spec.behind_sign text.now }
 {
-    if text.len() == 0 {
-        return &text[0..0];
+    match text {
+        [b'-', digits @ ..] => digits,
+        _ => text,
     }
-    if text[0] == b'-' {
-        return &text[1..];
-    }
-    &text[0..]
+}
+
+// The place of the first point.
+fn point(text: &[u8]) -> Option<usize>
+    ensures { result ≡ position spec.is_point text.now }
+{
+    text.iter().position(|b| *b == b'.')
 }
 
 // What is before the first point.
 fn before_point(text: &[u8]) -> &[u8]
     ensures { result.now ≡ spec.before_point text.now }
 {
-    let p = first(text, Kind::Point);
-    &text[0..p]
+    match point(text) {
+        Some(p) => &text[..p],
+        None => text,
+    }
 }
 
 // What is behind the first point.
 fn behind_point(text: &[u8]) -> &[u8]
     ensures { result.now ≡ spec.behind_point text.now }
 {
-    let p = first(text, Kind::Point);
-    if p < text.len() {
-        return &text[p + 1..];
+    match point(text) {
+        Some(p) => &text[p + 1..],
+        None => &[],
     }
-    &text[0..0]
 }
 
 // Whether a text is digits with at most one point among them, and some digit.
+#[tactic(auto, unfolding(crate::specs::Fault::is_decimal))]
 fn is_decimal(text: &[u8]) -> bool
     ensures { result ≡ spec.is_decimal text.now }
 {
@@ -113,6 +123,7 @@ fn is_decimal(text: &[u8]) -> bool
 }
 
 // The reason that a text's form gives.
+#[tactic(auto, unfolding(crate::specs::Fault::form_fault))]
 fn form_fault(text: &[u8]) -> Fault
     ensures { result ≡ spec.form_fault text.now }
 {
@@ -126,23 +137,21 @@ fn form_fault(text: &[u8]) -> Fault
     Fault::TooLarge
 }
 
-// Why a text is no number.
-pub fn number_fault(text: &[u8]) -> Fault
-    ensures { result ≡ spec.fault_of text.now }
+// Why a text is no number, where it is none.
+#[tactic(auto, unfolding(crate::specs::Fault::reason_of))]
+fn reason_of(text: &[u8]) -> Fault
+    ensures { result ≡ spec.reason_of text.now }
 {
-    if is_number(text) {
-        return Fault::Readable;
-    }
-    if text.len() == 0 {
+    if text.is_empty() {
         return Fault::Missing;
     }
-    if has_mark(text) {
+    if behind_mark(text).is_some() {
         return Fault::Bits;
     }
     if text[0] == b'+' {
         return Fault::Plus;
     }
-    if has(text, Kind::Comma) {
+    if text.contains(&b',') {
         return Fault::Comma;
     }
     if is_hex(text) {
@@ -154,14 +163,12 @@ pub fn number_fault(text: &[u8]) -> Fault
     form_fault(text)
 }
 
-// Why a text is no whole number.
-pub fn whole_fault(text: &[u8]) -> WholeFault
-    ensures { result ≡ spec.whole_fault_of text.now }
+// Why a text is no whole number, where it is none.
+#[tactic(auto, unfolding(crate::specs::Fault::whole_reason_of))]
+fn whole_reason_of(text: &[u8]) -> WholeFault
+    ensures { result ≡ spec.whole_reason_of text.now }
 {
-    if is_whole(text) {
-        return WholeFault::Readable;
-    }
-    if text.len() == 0 {
+    if text.is_empty() {
         return WholeFault::Missing;
     }
     if !all_digits(text, 10) {
@@ -171,4 +178,26 @@ pub fn whole_fault(text: &[u8]) -> WholeFault
         return WholeFault::Long;
     }
     WholeFault::TooLarge
+}
+
+// Why a text is no number; none where it is one.
+#[tactic(auto, unfolding(crate::specs::Fault::fault_of))]
+pub fn number_fault(text: &[u8]) -> Option<Fault>
+    ensures { result ≡ spec.fault_of text.now }
+{
+    match read_number(text) {
+        Some(_) => None,
+        None => Some(reason_of(text)),
+    }
+}
+
+// Why a text is no whole number; none where it is one.
+#[tactic(auto, unfolding(crate::specs::Fault::whole_fault_of))]
+pub fn whole_fault(text: &[u8]) -> Option<WholeFault>
+    ensures { result ≡ spec.whole_fault_of text.now }
+{
+    match read_whole(text) {
+        Some(_) => None,
+        None => Some(whole_reason_of(text)),
+    }
 }

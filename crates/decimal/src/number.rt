@@ -1,10 +1,10 @@
 // An f64 out of text: 0x and 16 hex digits are its bits, anything else is a decimal.
-ghost use Rattle.std.specs.Prelude.{◌≡◌, from_bits};
+ghost use Rattle.std.specs.Prelude.{◌≡◌, from_bits, option_copied};
 ghost use Rattle.std.specs.Float.{binary64};
 ghost use Rattle.decimal.specs.Number as spec;
 
-use crate::decimal::{Reading, read_decimal};
-use crate::digits::{all_digits, digits_number};
+use crate::decimal::read_decimal;
+use crate::digits::digits_number;
 
 // The f64 that bits are. `from_bits` is not defined at the bits of a NaN.
 fn of_bits(bits: u64) -> f64
@@ -16,35 +16,33 @@ fn of_bits(bits: u64) -> f64
     f64::from_bits(bits)
 }
 
-// Whether a text begins with 0x.
-pub fn has_mark(text: &[u8]) -> bool
-    ensures { result ≡ spec.has_mark text.now }
+// The f64 whose bits 16 hex digits write; none for anything else.
+#[tactic(auto, unfolding(crate::specs::Number::of_hex))]
+fn of_hex(digits: &[u8]) -> Option<f64>
+    ensures { result ≡ spec.of_hex digits.now }
 {
-    if text.len() < 2 {
-        return false;
+    if digits.len() == 16 {
+        return digits_number(digits, 16).map(of_bits);
     }
-    (text[0] == b'0') & (text[1] == b'x')
+    None
 }
 
-// What is behind 0x; nothing where a text does not begin so.
-fn behind_mark(text: &[u8]) -> &[u8]
-    ensures { result.now ≡ spec.behind_mark text.now }
+// What is behind 0x; none where a text does not begin so.
+pub fn behind_mark(text: &[u8]) -> Option<&[u8]>
+    ensures { option_copied result ≡ spec.behind_mark text.now }
 {
-    if has_mark(text) {
-        return &text[2..];
+    match text {
+        [b'0', b'x', digits @ ..] => Some(digits),
+        _ => None,
     }
-    &text[0..0]
 }
 
 // The number that a text is.
-pub fn read_number(text: &[u8]) -> Reading
+#[tactic(auto, unfolding(crate::specs::Number::read_number))]
+pub fn read_number(text: &[u8]) -> Option<f64>
     ensures { result ≡ spec.read_number text.now }
 {
-    let digits = behind_mark(text);
-    if digits.len() == 16 {
-        if all_digits(digits, 16) {
-            return Reading::Is(of_bits(digits_number(digits, 16)));
-        }
-    }
-    read_decimal(text)
+    behind_mark(text)
+        .and_then(of_hex)
+        .or_else(|| read_decimal(text))
 }

@@ -2,31 +2,15 @@
 ghost use Rattle.std.specs.Prelude.{◌≡◌};
 ghost use Rattle.decimal.specs.Number as spec;
 
-use crate::digits::{all_digits, digits_number};
-
-// A whole number read, or word that the text is none.
-#[derive(Clone, Copy)]
-pub enum Whole {
-    Is(u32),
-    Not,
-}
+use crate::digits::digits_number;
 
 // The whole number that a text is.
-pub fn read_whole(text: &[u8]) -> Whole
+#[tactic(auto, unfolding(crate::specs::Number::read_whole))]
+pub fn read_whole(text: &[u8]) -> Option<u32>
     ensures { result ≡ spec.read_whole text.now }
 {
-    if text.len() == 0 {
-        return Whole::Not;
+    if text.is_empty() | (10 < text.len()) {
+        return None;
     }
-    if 10 < text.len() {
-        return Whole::Not;
-    }
-    if !all_digits(text, 10) {
-        return Whole::Not;
-    }
-    let n = digits_number(text, 10);
-    if n <= 4294967295 {
-        return Whole::Is(n as u32);
-    }
-    Whole::Not
+    u32::try_from(digits_number(text, 10)?).ok()
 }

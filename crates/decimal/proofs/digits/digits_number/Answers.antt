@@ -1,23 +1,40 @@
--- `digits_number`: n is what the digits before i write.
-use Rattle.std.proofs.Common.{refl, arith}
-use Rattle.decimal.proofs.Texts.{read-start, read_next, read_fits, read-end}
+-- `digits_number`: n is what the digits before the index write.
+use Rattle.std.proofs.Common.{ℕ, ◌+◌, ◌*◌, get_or, sym, ap, ◌∙◌, refl, lit≤, arith, mul-le-mul_right}
+use native.Mathlib.Nat.{pow-zero}
+use Rattle.std.specs.Option.{option_map}
+use Rattle.std.proofs.lemmas.List.{at_drop_all}
+use Rattle.decimal.specs.Digits.{all_digits, whole_from, number_from}
+use Rattle.decimal.proofs.Texts.{carried-next, carried-none, number-carried, digit-lt, one_more, few-digits}
 use Rattle.decimal.proofs.digits.digits_number.Goals as goal
 
-pub loop-i-init : goal.loop-i-init
-loop-i-init c = read-start c.args.base c.args.text.now c.requires.text_value
+pub loop-b-init : goal.loop-b-init
+loop-b-init c = (rw pow-zero (lit≤ tt), refl)
 
 pub overflow_mul-n : goal.overflow_mul-n
 overflow_mul-n c =
-    let l = c.args.text.now in
-    omega (arith, read_fits c.args.base l _ _ (read_next c.args.base l c.loop-i.n c.loop-i.i c.loop-i.invariant _ c.loop-i-test.true refl) c.requires.text_len_bound c.requires.base_bound)
+    let k = few-digits c.args.base c.loop-b.n c.loop-b.b-index c.loop-b.invariant.0 (omega arith) c.requires.base_bound in
+    omega (arith, mul-le-mul_right c.loop-b.n c.requires.base_bound)
 
 pub overflow_add-n : goal.overflow_add-n
 overflow_add-n c =
-    let l = c.args.text.now in
-    omega (arith, read_fits c.args.base l _ _ (read_next c.args.base l c.loop-i.n c.loop-i.i c.loop-i.invariant c.hex_value.result c.loop-i-test.true c.hex_value.ensures) c.requires.text_len_bound c.requires.base_bound)
+    let k = few-digits c.args.base c.loop-b.n c.loop-b.b-index c.loop-b.invariant.0 (omega arith) c.requires.base_bound in
+    omega (arith, mul-le-mul_right c.loop-b.n c.requires.base_bound, digit-lt c.args.base (get_or c.args.text.now c.loop-b.b-index 0) c.in_ok-n.field-0 (sym c.digit.ensures ∙ c.in_ok-n.was))
 
-pub loop-i-preserved : goal.loop-i-preserved
-loop-i-preserved c = read_next c.args.base c.args.text.now c.loop-i.n c.loop-i.i c.loop-i.invariant c.hex_value.result c.loop-i-test.true c.hex_value.ensures
+pub loop-b-preserved : goal.loop-b-preserved
+loop-b-preserved c =
+    let e = sym c.digit.ensures ∙ c.in_ok-n.was in
+    let base = c.args.base in
+    let text = c.args.text.now in
+    let n = c.loop-b.n in
+    let i = c.loop-b.b-index in
+    let d = c.in_ok-n.field-0 in
+    (one_more base n i c.loop-b.invariant.0 d (digit-lt base (get_or text i 0) d e), carried-next (number-carried base) text i n c.loop-b-test.true (base * n + d) (ap (option_map (λ (v : ℕ). base * n + v)) e) ∙ c.loop-b.invariant.1)
+
+pub returns-in_err-n : goal.returns-in_err-n
+returns-in_err-n c =
+    let e = sym c.digit.ensures ∙ c.in_err-n.was in
+    rw c.from_residual.ensures (carried-none (number-carried c.args.base) _ _ _ c.loop-b-test.true (ap (option_map (λ (d : ℕ). c.args.base * c.loop-b.n + d)) e) ∙ c.loop-b.invariant.1)
 
 pub returns : goal.returns
-returns c = read-end c.args.base c.args.text.now c.loop-i.n c.loop-i.i c.loop-i.invariant c.loop-i-test.false
+unfolding all_digits whole_from
+returns c = sym (at_drop_all (number_from c.args.base c.loop-b.n) _ _ c.loop-b-test.false) ∙ c.loop-b.invariant.1

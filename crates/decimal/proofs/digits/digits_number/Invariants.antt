@@ -1,10 +1,7 @@
--- `digits_number`: n is what the digits before i write.
-use Rattle.std.proofs.Common.{◌-◌, length}
-use Rattle.decimal.proofs.Texts.{Read}
+-- `digits_number`: n is what the digits before the index write.
+use Rattle.std.proofs.Common.{◌≡◌, ◌<◌, ◌^◌, drop}
+use Rattle.decimal.specs.Digits.{number_from, digits_number}
 use Rattle.decimal.proofs.digits.digits_number.Given as goal
 
-abbrev pub invariant-loop-i : goal.invariant-loop-i
-invariant-loop-i l = Read l.base l.text l.n l.i
-
-abbrev pub decreases-loop-i : goal.decreases-loop-i
-decreases-loop-i l = length l.text - l.i
+abbrev pub invariant-loop-b : goal.invariant-loop-b
+invariant-loop-b l = (l.n < l.base ^ l.b-index) × (number_from l.base l.n (drop l.b-index l.text) ≡ digits_number l.base l.text)

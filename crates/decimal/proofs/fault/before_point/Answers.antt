@@ -1,9 +1,13 @@
--- `before_point`: the point is within the text.
-use Rattle.decimal.proofs.Faults.{point-within, point-before}
+-- `before_point`: with a point and without.
+use Rattle.std.proofs.Common.{sym, ◌∙◌}
+use Rattle.decimal.specs.Fault.{is_point, before_point}
+use Rattle.decimal.proofs.Points.{before-some, before-none}
 use Rattle.decimal.proofs.fault.before_point.Goals as goal
 
-pub slice_bounds-result-end : goal.slice_bounds-result-end
-slice_bounds-result-end c = point-within c.args.text.now c.first-p.result c.first-p.ensures
+pub returns-in-Some : goal.returns-in-Some
+unfolding before_point
+returns-in-Some c = before-some is_point c.args.text.now c.in-Some.p (sym c.point.ensures ∙ c.in-Some.is)
 
-pub returns : goal.returns
-returns c = point-before c.args.text.now c.first-p.result c.first-p.ensures
+pub returns-in-None : goal.returns-in-None
+unfolding before_point
+returns-in-None c = before-none is_point c.args.text.now (sym c.point.ensures ∙ c.in-None.is)

@@ -1,9 +1,13 @@
 -- `behind_point`: with a point and without.
-use Rattle.decimal.proofs.Faults.{point-behind, point-none}
+use Rattle.std.proofs.Common.{sym, ◌∙◌}
+use Rattle.decimal.specs.Fault.{is_point, behind_point}
+use Rattle.decimal.proofs.Points.{behind-some, behind-none}
 use Rattle.decimal.proofs.fault.behind_point.Goals as goal
 
-pub returns-then-p-text : goal.returns-then-p-text
-returns-then-p-text c = point-behind c.args.text.now c.first-p.result c.first-p.ensures
+pub returns-in-Some : goal.returns-in-Some
+unfolding behind_point
+returns-in-Some c = behind-some is_point c.args.text.now c.in-Some.p (sym c.point.ensures ∙ c.in-Some.is)
 
-pub returns : goal.returns
-returns c = point-none c.args.text.now c.first-p.result c.first-p.ensures c.if-p-text.false
+pub returns-in-None : goal.returns-in-None
+unfolding behind_point
+returns-in-None c = behind-none is_point c.args.text.now (sym c.point.ensures ∙ c.in-None.is)
