@@ -1,15 +1,12 @@
 -- A text has no fault exactly where it is a number, and what `TooLarge` says of it.
-use Rattle.std.proofs.Common.{◌≡◌, ℕ, ◌<◌, ◌≤◌, Bool, true, false, cond, not, ◌&&◌, nat_le, nat_lt, ◌==◌, List, length, slice_index, sym, refl, ap, ◌∙◌, ltb-false, leb-false, leb-true, le-leb, arith, Option, Some, None}
-use mathlib.Core.Bool.{false≢true}
+use Rattle.std.proofs.Common.{◌≡◌, ℕ, ◌<◌, ◌≤◌, Bool, true, false, cond, not, ◌&&◌, nat_le, nat_lt, ◌==◌, List, length, slice_index, refl, ltb-false, leb-false, le-leb, arith, Option, Some, None}
 use borrow.Author.Tests.{not-false, eqb-false}
 use lib.Ieee.{Float}
 use Rattle.std.specs.List.{list_any}
 use Rattle.decimal.specs.Digits.{all_digits, whole_from}
 use Rattle.decimal.specs.Number.{has_mark, read_number, read_whole}
 use Rattle.decimal.specs.Fault.{unless, is_comma, is_hex, is_exponent, behind_sign, behind_point, is_decimal, form_fault, reason_of, whole_reason_of, fault_of, whole_fault_of}
-use Rattle.decimal.specs.declared.fault.Fault.{Fault}
 use Rattle.decimal.specs.declared.fault.Fault.TheVariants as Faults
-use Rattle.decimal.specs.declared.fault.WholeFault.{WholeFault}
 use Rattle.decimal.specs.declared.fault.WholeFault.TheVariants as WholeFaults
 
 -- ---- numbers and whole numbers alike

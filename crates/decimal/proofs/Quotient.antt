@@ -1,8 +1,8 @@
 -- A whole number over a power of ten: both are f64s, so their quotient is the fraction, rounded once.
-use Rattle.std.proofs.Common.{◌≡◌, ℕ, suc, ◌+◌, ◌-◌, ◌*◌, ◌^◌, ◌<◌, ◌≤◌, Bool, true, false, cond, not, T, Some, eqb, pos, sym, ap, ◌∙◌, subst, ap₂, inl, inr, lt_of_lt_of_le, zero-lt-suc, mul_assoc, mul_comm, mul-pos, zero-mul, mul-one, sub-add_cancel, mul_left_comm, arith, lit≤, le→leb, eqb→eq, pow_pos, pow_mono, pow-add, shl_lt}
+use Rattle.std.proofs.Common.{◌≡◌, ℕ, suc, ◌+◌, ◌-◌, ◌*◌, ◌^◌, ◌<◌, ◌≤◌, Bool, true, false, cond, not, T, Some, eqb, pos, sym, ap, ◌∙◌, subst, ap₂, inl, inr, lt_of_lt_of_le, zero-lt-suc, mul_assoc, mul_comm, mul-pos, zero-mul, mul-one, sub-add_cancel, mul_left_comm, arith, lit≤, eqb→eq, pow_pos, pow_mono, pow-add, shl_lt}
 use native.Mathlib.Nat.{pow-le-pow_right, one-le-pow}
 use lib.Dec.{not_T}
-use lib.Ieee.{Float, nan, inf, fin, Format, binary64, low, emax, up, down, unlike, round, neg, div, of_int, in_float}
+use lib.Ieee.{Float, nan, inf, fin, Format, binary64, low, emax, up, down, unlike, round, neg, div, of_int}
 use lib.Ieee.Back.{round_whole}
 use lib.Ieee.Bits.{cond_no}
 use lib.Ieee.Exact.{HasValue, round_exact}

@@ -1,5 +1,5 @@
 -- A text from an index on: a result that is carried along, and the number that digits write.
-use Rattle.std.proofs.Common.{◌≡◌, ℕ, ◌+◌, ◌*◌, ◌^◌, ◌<◌, ◌≤◌, Bool, true, false, cond, ◌&&◌, nat_lt, List, [], ◌∷◌, length, get_or, drop, sym, refl, ap, ◌∙◌, lt_of_lt_of_le, le_trans, mul-le-mul_left, mul-suc, add-one, arith, lit≤, ltb-true, Some, None, Option, is_some}
+use Rattle.std.proofs.Common.{◌≡◌, ℕ, ◌+◌, ◌*◌, ◌^◌, ◌<◌, ◌≤◌, Bool, true, false, cond, ◌&&◌, nat_lt, List, ◌∷◌, length, get_or, drop, sym, refl, ap, ◌∙◌, lt_of_lt_of_le, le_trans, mul-le-mul_left, mul-suc, add-one, arith, lit≤, ltb-true, Some, None, Option, is_some}
 use native.Mathlib.Nat.{pow-succ', pow-le-pow_left, pow-le-pow_right}
 use Rattle.std.specs.Char.{digit_value}
 use Rattle.std.specs.Option.{option_and_then, option_map}

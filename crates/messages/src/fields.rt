@@ -43,18 +43,17 @@ pub fn quoted_at(out: i32, text: &[u8], at: usize, k: usize) {
 
 // Why a field is no number.
 fn number_reason(out: i32, w: &[u8]) {
-    let f = number_fault(w);
-    match f {
-        Fault::Bits => put(out, b" is not 0x and 16 hex digits"),
-        Fault::Plus => put(out, b": a number has no plus sign"),
-        Fault::Comma => put(out, b": a number has a point, not a comma"),
-        Fault::Exponent => put(out, b": a number has no exponent"),
-        Fault::NoMark => put(
+    match number_fault(w) {
+        Some(Fault::Bits) => put(out, b" is not 0x and 16 hex digits"),
+        Some(Fault::Plus) => put(out, b": a number has no plus sign"),
+        Some(Fault::Comma) => put(out, b": a number has a point, not a comma"),
+        Some(Fault::Exponent) => put(out, b": a number has no exponent"),
+        Some(Fault::NoMark) => put(
             out,
             b": the bits of a number need 0x before the 16 hex digits",
         ),
-        Fault::Places => put(out, b" has more than 18 digits behind the point"),
-        Fault::TooLarge => put(
+        Some(Fault::Places) => put(out, b" has more than 18 digits behind the point"),
+        Some(Fault::TooLarge) => put(
             out,
             b": a number's digits as one whole number are at most 2^53, 9007199254740992",
         ),
@@ -64,10 +63,9 @@ fn number_reason(out: i32, w: &[u8]) {
 
 // Why a field is no whole number.
 fn whole_reason(out: i32, w: &[u8]) {
-    let f = whole_fault(w);
-    match f {
-        WholeFault::Long => put(out, b" has more than ten digits"),
-        WholeFault::TooLarge => put(out, b" is not below 2^32, 4294967296"),
+    match whole_fault(w) {
+        Some(WholeFault::Long) => put(out, b" has more than ten digits"),
+        Some(WholeFault::TooLarge) => put(out, b" is not below 2^32, 4294967296"),
         _ => put(out, b" is not a whole number, digits alone"),
     }
 }

@@ -2,8 +2,6 @@
 ghost use Rattle.std.specs.Prelude.{◌≤◌, length};
 
 use crate::fields::reading;
-use decimal::decimal::Reading;
-use decimal::whole::Whole;
 use route::fields::{bytes_at, is_word};
 
 // Field .1 of the line at .0.
@@ -37,7 +35,7 @@ pub fn reals_from(text: &[u8], from: Place, col: &mut [f64]) -> usize
     let mut p = from;
     let mut i = 0;
     while i < col.len() {
-        let Reading::Is(x) = reading(bytes_at(text, p.0, p.1)) else {
+        let Some(x) = reading(bytes_at(text, p.0, p.1)) else {
             return i;
         };
         col[i] = x;
@@ -54,7 +52,7 @@ pub fn wholes_from(text: &[u8], from: Place, col: &mut [u32]) -> usize
     let mut p = from;
     let mut i = 0;
     while i < col.len() {
-        let Whole::Is(n) = route::fields::whole_at(text, p.0, p.1) else {
+        let Some(n) = route::fields::whole_at(text, p.0, p.1) else {
             return i;
         };
         col[i] = n;

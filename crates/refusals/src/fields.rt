@@ -1,31 +1,26 @@
 // A row's fields: its call, the arguments up to a field `:`, and behind that the row's name, which goes to the line's end.
 use crate::columns::{Place, found, line_after};
-use decimal::decimal::Reading;
-use decimal::whole::Whole;
 use lookup::lin_search_hint::Dir;
 use route::fields::{bytes_at, direction_code, is_word};
 use route::text::Span;
 
 // The number that a field is: a decimal, 0x and 16 hex digits that are its bits, or nan, inf, -inf.
-pub fn reading(w: &[u8]) -> Reading {
+pub fn reading(w: &[u8]) -> Option<f64> {
     if is_word(w, b"nan") {
-        return Reading::Is(0.0 / 0.0);
+        return Some(0.0 / 0.0);
     }
     if is_word(w, b"inf") {
-        return Reading::Is(1.0 / 0.0);
+        return Some(1.0 / 0.0);
     }
     if is_word(w, b"-inf") {
-        return Reading::Is(0.0 - 1.0 / 0.0);
+        return Some(0.0 - 1.0 / 0.0);
     }
     decimal::number::read_number(w)
 }
 
 // Field k as a number; 0 where it is none.
 pub fn real_at(text: &[u8], at: usize, k: usize) -> f64 {
-    if let Reading::Is(x) = reading(bytes_at(text, at, k)) {
-        return x;
-    }
-    0.0
+    reading(bytes_at(text, at, k)).unwrap_or(0.0)
 }
 
 // Field k as a count.
@@ -43,17 +38,11 @@ pub fn dir_at(text: &[u8], at: usize, k: usize) -> Dir {
 }
 
 fn is_real(w: &[u8]) -> bool {
-    if let Reading::Is(_) = reading(w) {
-        return true;
-    }
-    false
+    reading(w).is_some()
 }
 
 fn is_whole(w: &[u8]) -> bool {
-    if let Whole::Is(_) = decimal::whole::read_whole(w) {
-        return true;
-    }
-    false
+    decimal::whole::read_whole(w).is_some()
 }
 
 // Whether a field is of a kind: x a number, n a whole number, d a direction, r and w the name of a column of reals and of wholes.

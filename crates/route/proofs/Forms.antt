@@ -9,7 +9,8 @@ use borrow.Author.Tests.{not-true, not-false}
 use lib.ListN.{length, drop, get_or, drop_of_length-le}
 use lib.Seq.{drop-cons}
 use Rattle.route.specs.Fields.{no_field, whole_at}
-use Rattle.route.specs.Forms.{is_whole, field_fits, misfit_from, list_misfit_from}
+use Rattle.std.specs.Option.{is_some}
+use Rattle.route.specs.Forms.{field_fits, misfit_from, list_misfit_from}
 
 -- ---- field i + 1 of a form, where r is whether it fits
 module _ (text : List ℕ) (at : ℕ) (form : List ℕ) (i : ℕ) where
@@ -56,7 +57,7 @@ module _ (text : List ℕ) (at room i : ℕ) where
   module _ (h : i < room) where
     list_at :
         list_from
-        ≡ cond (no_field text at (i + 1)) 0 (cond (is_whole (whole_at text at (i + 1))) (list_misfit_from text at (suc (i + 1)) (room - (i + 1))) (i + 1))
+        ≡ cond (no_field text at (i + 1)) 0 (cond (is_some (whole_at text at (i + 1))) (list_misfit_from text at (suc (i + 1)) (room - (i + 1))) (i + 1))
     unfolding list_misfit_from
     list_at =
         let e : room - i ≡ suc (room - (i + 1)) = omega arith in
@@ -65,7 +66,7 @@ module _ (text : List ℕ) (at room i : ℕ) where
     pub list-stop : no_field text at (i + 1) ≡ true → 0 ≡ list_from
     list-stop n = sym (list_at ∙ rw n)
 
-    module _ (n : no_field text at (i + 1) ≡ false) (r : Bool) (e : r ≡ is_whole (whole_at text at (i + 1))) where
+    module _ (n : no_field text at (i + 1) ≡ false) (r : Bool) (e : r ≡ is_some (whole_at text at (i + 1))) where
       pub list-next : not r ≡ false → list_misfit_from text at (i + 1 + 1) (room - (i + 1)) ≡ list_from
       list-next m = sym (list_at ∙ rw (n, ← e, not-false r m, add-one (i + 1)))
 

@@ -1,9 +1,5 @@
 -- What a field of a line is. Definitions only.
-use Rattle.std.specs.Prelude.{ℕ, Bool, true, false, ◌&&◌, List, [], ◌∷◌, eqb, length, Float}
-use Rattle.decimal.specs.declared.decimal.Reading.{Reading}
-use Rattle.decimal.specs.declared.decimal.Reading.TheVariants as Reads
-use Rattle.decimal.specs.declared.whole.Whole.{Whole}
-use Rattle.decimal.specs.declared.whole.Whole.TheVariants as Wholes
+use Rattle.std.specs.Prelude.{ℕ, Bool, true, false, ◌&&◌, List, [], ◌∷◌, eqb, length, Float, Option, unwrap_or}
 use Rattle.ieee.specs.Number.{+0}
 use Rattle.decimal.specs.Number.{read_number, read_whole}
 use Rattle.route.specs.Text.{field, bytes_of}
@@ -26,20 +22,18 @@ unfolding field_bytes
 no_field text at k = eqb (length (field_bytes text at k)) 0
 
 -- the number that field k is
-unfoldable pub number_at : List ℕ → ℕ → ℕ → Reading
+unfoldable pub number_at : List ℕ → ℕ → ℕ → Option Float
 unfolding field_bytes
 number_at text at k = read_number (field_bytes text at k)
 
 -- a number that is known to be one; 0 otherwise
-abbrev pub or_zero : Reading → Float
-or_zero (Reads.Is x) = x
-or_zero Reads.Not = +0
+abbrev pub or_zero : Option Float → Float
+or_zero r = unwrap_or r +0
 
-abbrev pub whole_or_zero : Whole → ℕ
-whole_or_zero (Wholes.Is n) = n
-whole_or_zero Wholes.Not = 0
+abbrev pub whole_or_zero : Option ℕ → ℕ
+whole_or_zero r = unwrap_or r 0
 
 -- the whole number that field k is
-unfoldable pub whole_at : List ℕ → ℕ → ℕ → Whole
+unfoldable pub whole_at : List ℕ → ℕ → ℕ → Option ℕ
 unfolding field_bytes
 whole_at text at k = read_whole (field_bytes text at k)

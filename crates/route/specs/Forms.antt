@@ -1,19 +1,7 @@
 -- What the fields of a line must be, by its kind, and the first that is not so. Definitions only.
-use Rattle.std.specs.Prelude.{ℕ, zero, suc, Bool, true, false, cond, List, [], ◌∷◌, eqb, ltb}
-use Rattle.decimal.specs.declared.decimal.Reading.{Reading}
-use Rattle.decimal.specs.declared.decimal.Reading.TheVariants as Reads
-use Rattle.decimal.specs.declared.whole.Whole.{Whole}
-use Rattle.decimal.specs.declared.whole.Whole.TheVariants as Wholes
+use Rattle.std.specs.Prelude.{ℕ, zero, suc, Bool, false, cond, List, [], ◌∷◌, eqb, ltb, is_some}
 use Rattle.route.specs.Fields.{field_bytes, no_field, number_at, whole_at}
 use Rattle.route.specs.Codes.{bytes, code_of, types, places, tails, figures, comparisons, directions}
-
-abbrev pub is_number : Reading → Bool
-is_number (Reads.Is x) = true
-is_number Reads.Not = false
-
-abbrev pub is_whole : Whole → Bool
-is_whole (Wholes.Is n) = true
-is_whole Wholes.Not = false
 
 -- whether field k is what a letter asks for: n a number, w a whole number, t a train type, p the place of a set, h with or without a tail, f a figure of
 -- the train, c a comparison, d a direction
@@ -21,8 +9,8 @@ unfoldable pub field_fits : List ℕ → ℕ → ℕ → ℕ → Bool
 unfolding number_at whole_at field_bytes code_of
 field_fits text at k asks =
     let w = field_bytes text at k in
-    cond (eqb asks 110) (is_number (number_at text at k))
-    (cond (eqb asks 119) (is_whole (whole_at text at k))
+    cond (eqb asks 110) (is_some (number_at text at k))
+    (cond (eqb asks 119) (is_some (whole_at text at k))
     (cond (eqb asks 116) (ltb (code_of 7 types w) 7)
     (cond (eqb asks 112) (ltb (code_of 8 places w) 8)
     (cond (eqb asks 104) (ltb (code_of 2 tails w) 2)
@@ -41,7 +29,7 @@ misfit_from text at k (asks ∷ form) = cond (field_fits text at k asks) (misfit
 unfoldable pub list_misfit_from : List ℕ → ℕ → ℕ → ℕ → ℕ
 unfolding whole_at no_field
 list_misfit_from text at k zero = cond (no_field text at k) 0 k
-list_misfit_from text at k (suc n) = cond (no_field text at k) 0 (cond (is_whole (whole_at text at k)) (list_misfit_from text at (suc k) n) k)
+list_misfit_from text at k (suc n) = cond (no_field text at k) 0 (cond (is_some (whole_at text at k)) (list_misfit_from text at (suc k) n) k)
 
 -- the same for a line of the train or of the link table, by its kind: train, link, power, set, when, limit, and elev or heading
 unfoldable pub table_misfit : List ℕ → ℕ → ℕ → ℕ

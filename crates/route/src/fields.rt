@@ -4,9 +4,8 @@ ghost use Rattle.route.specs.Fields as spec;
 ghost use Rattle.route.specs.Codes as codes;
 
 use crate::text::{field, field_from, part};
-use decimal::decimal::Reading;
 use decimal::number::read_number;
-use decimal::whole::{Whole, read_whole};
+use decimal::whole::read_whole;
 
 // The bytes of field k, from 0, of the line at `at`; none where the line has no such field.
 pub fn bytes_at(text: &[u8], at: usize, k: usize) -> &[u8]
@@ -16,14 +15,14 @@ pub fn bytes_at(text: &[u8], at: usize, k: usize) -> &[u8]
 }
 
 // The number that field k is.
-pub fn number_at(text: &[u8], at: usize, k: usize) -> Reading
+pub fn number_at(text: &[u8], at: usize, k: usize) -> Option<f64>
     ensures { result ≡ spec.number_at text.now at k }
 {
     read_number(bytes_at(text, at, k))
 }
 
 // The whole number that field k is.
-pub fn whole_at(text: &[u8], at: usize, k: usize) -> Whole
+pub fn whole_at(text: &[u8], at: usize, k: usize) -> Option<u32>
     ensures { result ≡ spec.whole_at text.now at k }
 {
     read_whole(bytes_at(text, at, k))
@@ -50,22 +49,14 @@ pub fn is_word(a: &[u8], b: &[u8]) -> bool
 pub fn float_at(text: &[u8], at: usize, k: usize) -> f64
     ensures { result ≡ spec.or_zero (spec.number_at text.now at k) }
 {
-    let r = number_at(text, at, k);
-    match r {
-        Reading::Is(x) => x,
-        Reading::Not => 0.0,
-    }
+    number_at(text, at, k).unwrap_or(0.0)
 }
 
 // The whole number that a field is known to be; 0 otherwise.
 pub fn count_at(text: &[u8], at: usize, k: usize) -> u32
     ensures { result ≡ spec.whole_or_zero (spec.whole_at text.now at k) }
 {
-    let r = whole_at(text, at, k);
-    match r {
-        Whole::Is(n) => n,
-        Whole::Not => 0,
-    }
+    whole_at(text, at, k).unwrap_or(0)
 }
 
 // The code of a word in a list of words apart by blanks, whose codes are those from `first` up to `end`; `other` for any other word.

@@ -1,5 +1,5 @@
 // Whether every line of a route can be read: the first that cannot, and why.
-ghost use Rattle.std.specs.Prelude.{◌≡◌};
+ghost use Rattle.std.specs.Prelude.{◌≡◌, is_some};
 ghost use Rattle.route.specs.Fields.{number_at, whole_at};
 ghost use Rattle.route.specs.Forms as spec;
 
@@ -12,8 +12,6 @@ use crate::kinds::{
     REINDEX, RESISTANCE, SET, TRAIN, UNKNOWN, WHEN, kind_of,
 };
 use crate::text::next_line;
-use decimal::decimal::Reading;
-use decimal::whole::Whole;
 
 // How many records of each kind the link table has room for.
 pub const LINKS: usize = 1024;
@@ -88,23 +86,15 @@ pub fn nothing_seen() -> Seen {
 }
 
 fn is_number(text: &[u8], at: usize, k: usize) -> bool
-    ensures { result ≡ spec.is_number (number_at text.now at k) }
+    ensures { result ≡ is_some (number_at text.now at k) }
 {
-    let r = number_at(text, at, k);
-    match r {
-        Reading::Is(_) => true,
-        Reading::Not => false,
-    }
+    number_at(text, at, k).is_some()
 }
 
 fn is_whole(text: &[u8], at: usize, k: usize) -> bool
-    ensures { result ≡ spec.is_whole (whole_at text.now at k) }
+    ensures { result ≡ is_some (whole_at text.now at k) }
 {
-    let r = whole_at(text, at, k);
-    match r {
-        Whole::Is(_) => true,
-        Whole::Not => false,
-    }
+    whole_at(text, at, k).is_some()
 }
 
 // Whether field k is what a letter of a form asks for: a number, a whole number, or a word of a kind.
