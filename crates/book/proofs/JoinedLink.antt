@@ -25,7 +25,9 @@ use Rattle.path.specs.Records.{link_point, offset_of, grade_count_of, curve_coun
 use Rattle.path.specs.Sound.{total, count_of, end_counts_zero}
 use Rattle.path.proofs.Counts.{total-fewer, total-next}
 use Rattle.path_stretches.specs.declared.stretch.Stretch.{Stretch}
-use Rattle.path_stretches.specs.Stretches.{stretches, with_coefficient, lay_stretch, lay_stretches, offset_after}
+use Rattle.std.specs.Prelude.{Option, Some, None}
+use Rattle.si.specs.declared.Ratio.{Ratio}
+use Rattle.path_stretches.specs.Stretches.{stretches, given, with_coefficient, lay_stretch, lay_stretches, offset_after}
 use Rattle.path_join.specs.Listed.{rises_of, length_at, samples_at, grades_in, curves_in, powers_in}
 use Rattle.path_join.specs.Joined.{join_point, join_records}
 use Rattle.book.specs.Book.{Book, last_end, enter_link}
@@ -46,11 +48,11 @@ abbrev end_of : Stretch → Float
 end_of s = s.offset.0
 
 keeps-place : (s : Stretch) (g : PathResCoeff) → stands_at (with_coefficient s g) ≡ stands_at g
-keeps-place s g = pick s.keeps
+keeps-place s g = pick s.coefficient
   where
-    pick : (c : Bool) → stands_at (cond c g (res_coeff_record (stands_at g) s.coefficient.0 (net_of g))) ≡ stands_at g
-    pick true = refl
-    pick false = refl
+    pick : (c : Option Ratio) → stands_at (given c g) ≡ stands_at g
+    pick None = refl
+    pick (Some c) = refl
 
 one-laid : (gs : List PathResCoeff) (s : Stretch) → map stands_at (lay_stretch gs s) ≡ map stands_at gs ++ end_of s ∷ []
 one-laid gs s =

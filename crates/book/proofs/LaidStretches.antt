@@ -15,16 +15,23 @@ use Rattle.link.specs.Lists.{every}
 use Rattle.link.specs.Table.{Sample}
 use Rattle.link.proofs.Known.{and_both}
 use Rattle.path.specs.Records.{last_coeff}
+use Rattle.std.specs.Prelude.{Option, Some, None}
+use Rattle.si.specs.declared.Ratio.{Ratio}
 use Rattle.path_stretches.specs.declared.stretch.Stretch.{Stretch}
-use Rattle.path_stretches.specs.Stretches.{grade_stretch, radpm, curvature_of, turn_finite, curve_work, curve_stretch, stretch_step, stretches_from, stretches, is_finite, with_coefficient, lay_stretch, lay_stretches}
+use Rattle.path_stretches.specs.Stretches.{grade_stretch, radpm, curvature_of, turn_finite, curve_work, curve_stretch, stretch_step, stretches_from, stretches, is_finite, given, with_coefficient, lay_stretch, lay_stretches}
 use Rattle.path.proofs.Written.{values_finite}
 use Rattle.path.proofs.Lasts.{every_append, every_set, every-last, whole_finite}
 
 -- ---- what is finite in a stretch
 
--- the three numbers that it lays
+-- the coefficient, where it gives one
+abbrev given_finite : Option Ratio → Bool
+given_finite None = true
+given_finite (Some c) = finite c.0
+
+-- the numbers that it lays
 abbrev pub lays_finite : Stretch → Bool
-lays_finite s = finite s.coefficient.0 && (finite s.offset.0 && finite s.net.0)
+lays_finite s = given_finite s.coefficient && (finite s.offset.0 && finite s.net.0)
 
 grade-lays : (base net : Float) (prior current : Sample) → is_finite (grade_stretch base net prior current) ≡ true → lays_finite (grade_stretch base net prior current) ≡ true
 unfolding grade_stretch all_finite
@@ -77,13 +84,13 @@ stretches-lay curves train base net long (s ∷ ss) n e = from-lays curves train
 
 -- ---- laid: what is finite stays so
 with-finite : (s : Stretch) (g : PathResCoeff) → whole_finite g ≡ true → lays_finite s ≡ true → whole_finite (with_coefficient s g) ≡ true
-with-finite s g e f = pick s.keeps
+with-finite s g e f = pick s.coefficient (and_both (given_finite s.coefficient) _ f).0
   where
-    pick : (keeps : Bool) → whole_finite (cond keeps g (res_coeff_record (stands_at g) s.coefficient.0 (net_of g))) ≡ true
-    pick true = e
-    pick false =
+    pick : (c : Option Ratio) → given_finite c ≡ true → whole_finite (given c g) ≡ true
+    pick None t = e
+    pick (Some c) t =
         let a = and_both (finite (stands_at g)) (values_finite g) e in
-        ap₂ ◌&&◌ a.0 (ap₂ ◌&&◌ (and_both (finite s.coefficient.0) _ f).0 (and_both (finite (coefficient_of g)) (finite (net_of g)) a.1).1)
+        ap₂ ◌&&◌ a.0 (ap₂ ◌&&◌ t (and_both (finite (coefficient_of g)) (finite (net_of g)) a.1).1)
 
 pub finite-laid : (gs : List PathResCoeff) (ss : List Stretch) → every whole_finite gs ≡ true → every lays_finite ss ≡ true → every whole_finite (lay_stretches gs ss) ≡ true
 unfolding lay_stretches every
@@ -92,7 +99,7 @@ finite-laid gs (s ∷ ss) e f =
     let t = and_both (lays_finite s) _ f in
     let changed = with_coefficient s (last_coeff gs) in
     let front = every_set whole_finite gs (length gs - 1) changed e (with-finite s (last_coeff gs) (every-last whole_finite no_coeff gs refl e) t.0) in
-    let more = (and_both (finite s.coefficient.0) (finite s.offset.0 && finite s.net.0) t.0).1 in
+    let more = (and_both (given_finite s.coefficient) (finite s.offset.0 && finite s.net.0) t.0).1 in
     let new = and_both (finite s.offset.0) (finite s.net.0) more in
     finite-laid (lay_stretch gs s) ss
     (every_append whole_finite (set gs (length gs - 1) changed) (res_coeff_record s.offset.0 +0 s.net.0 ∷ []) ∙ ap₂ ◌&&◌ front (ap₂ ◌&&◌ (ap₂ ◌&&◌ new.0 new.1) refl))

@@ -23,6 +23,7 @@ use path_join::fit::records_fit;
 use path_join::join::{join_points, join_powers, join_records, start_net, starting_net};
 use path_join::path_end::{PathEnd, sums_question};
 use path_speeds::add_speeds::lay_links;
+use path_stretches::stretch::Lines;
 use si::Length;
 
 // Question 5 of the listed links: each follows the one before, the first the path's last link where it has one.
@@ -305,7 +306,7 @@ fn joined(
     let grade_count = join_records(
         &mut *grades,
         p.grade_count,
-        false,
+        Lines::Grades,
         begin,
         list,
         links,
@@ -317,7 +318,7 @@ fn joined(
     let curve_count = join_records(
         &mut *curves,
         p.curve_count,
-        true,
+        Lines::Curves,
         begin,
         list,
         links,

@@ -16,9 +16,11 @@ use Rattle.lookup.proofs.Coeffs.{triple-lawful}
 use Rattle.link.specs.declared.network.LinkNumbers.{LinkNumbers}
 use Rattle.link.specs.declared.train_params.TrainParams.{TrainParams}
 use Rattle.link.specs.Lists.{up_from}
-use Rattle.link.specs.Table.{sample_at, numbers_of}
+use Rattle.link.specs.Table.{Sample, sample_at, numbers_of}
 use Rattle.path.specs.Records.{last_coeff}
-use Rattle.path_stretches.specs.Stretches.{stretches, record_count, stretch_count, lay_stretches, Laid}
+use Rattle.path_stretches.specs.declared.stretch.Lines.{Lines}
+use Rattle.path_stretches.specs.declared.stretch.Lines.TheVariants.{Grades, Curves}
+use Rattle.path_stretches.specs.Stretches.{is_curves, stretches, stretch_count, lay_stretches, Laid}
 use Rattle.path_stretches.proofs.StretchSteps.{count-range}
 use Rattle.path_join.specs.Listed.{Rises, length_at, samples_at, records_in, sum_of, grade_end}
 use Rattle.path_join.specs.Joined.{join_records}
@@ -38,43 +40,36 @@ module _ (curves : Bool) (train : TrainParams) (r : Rises) (headings : List Floa
       length-laid rs (stretches curves train base (net_of (last_coeff rs)) (length_at r.lengths i) (samples_at curves r headings i))
       ∙ ap (λ (k : ℕ). length rs + k) (length-stretches curves train base (net_of (last_coeff rs)) (length_at r.lengths i) (samples_at curves r headings i) ∙ length-samples curves)
 
--- by what the code reads of the link
-module _ (links : List ℕ) (pool : List Float) (i : ℕ) {curves : Bool} {l : LinkNumbers} (e : l ≡ numbers_of links i) where
-  -- the headings that are read
-  pub curves-room : curves ≡ true → stretch_count (up_from (sample_at pool) l.headings_first l.headings_count) ≡ records_in curves links i
-  curves-room t =
-      count-range (sample_at pool) l.headings_first l.headings_count
-      ∙ ap (λ (k : LinkNumbers). record_count k.headings_count) e
-      ∙ ap (λ (c : Bool). records_in c links i) (sym t)
+-- what the code reads of the link: a pool, the first of its samples and their count
+abbrev pub samples_of : Lines → LinkNumbers → List Float → List Float → List Float × ℕ × ℕ
+samples_of Grades l elevs headings = (elevs, l.elevs_first, l.elevs_count)
+samples_of Curves l elevs headings = (headings, l.headings_first, l.headings_count)
 
-  -- the elevations that are read
-  pub grades-room : curves ≡ false → stretch_count (up_from (sample_at pool) l.elevs_first l.elevs_count) ≡ records_in curves links i
-  grades-room t =
-      count-range (sample_at pool) l.elevs_first l.elevs_count
-      ∙ ap (λ (k : LinkNumbers). record_count k.elevs_count) e
-      ∙ ap (λ (c : Bool). records_in c links i) (sym t)
+abbrev pub read : List Float × ℕ × ℕ → List Sample
+read p = up_from (sample_at p.0) p.1 p.2
 
--- the samples of a pool, laid
-module _ (train : TrainParams) (base : Float) (rs : List PathResCoeff) where
-  abbrev laid_with : Bool → List Float → Float → ℕ → ℕ → List PathResCoeff
-  laid_with c pool o first count = lay_stretches rs (stretches c train base (net_of (last_coeff rs)) o (up_from (sample_at pool) first count))
+samples-read : (r : Rises) (headings : List Float) (i : ℕ) (lines : Lines) {l : LinkNumbers} {p : List Float × ℕ × ℕ} → l ≡ numbers_of r.links i → p ≡ samples_of lines l r.elevs headings → read p ≡ samples_at (is_curves lines) r headings i
+samples-read r headings i Grades e f = rw (f, e)
+samples-read r headings i Curves e f = rw (f, e)
 
-module _ (train : TrainParams) (r : Rises) (headings : List Float) (base : Float) (rs : List PathResCoeff) (i : ℕ) {curves : Bool} {l : LinkNumbers} {o : Float} (e : l ≡ numbers_of r.links i) (f : o ≡ length_at r.lengths i) where
-  pub curves-joined : {col : List Float} {n size : ℕ} → curves ≡ true → Laid col n size (laid_with train base rs true headings o l.headings_first l.headings_count) → Laid col n size (join_records curves train r headings base rs i)
-  unfolding join_records
-  curves-joined t h =
-      let same : laid_with train base rs true headings o l.headings_first l.headings_count ≡ join_records curves train r headings base rs i =
-      ap₂ (λ (x : Float) (k : LinkNumbers). laid_with train base rs true headings x k.headings_first k.headings_count) f e
-      ∙ ap (λ (c : Bool). join_records c train r headings base rs i) (sym t) in
-      rw same at h
+pub lines-room :
+    (links : List ℕ) (elevs headings : List Float) (i : ℕ) (lines : Lines) {l : LinkNumbers} {p : List Float × ℕ × ℕ}
+    → l ≡ numbers_of links i
+    → p ≡ samples_of lines l elevs headings
+    → stretch_count (read p) ≡ records_in (is_curves lines) links i
+lines-room links elevs headings i Grades {l} e f = rw (f, e) (count-range (sample_at elevs) (numbers_of links i).elevs_first (numbers_of links i).elevs_count)
+lines-room links elevs headings i Curves {l} e f = rw (f, e) (count-range (sample_at headings) (numbers_of links i).headings_first (numbers_of links i).headings_count)
 
-  pub grades-joined : {col : List Float} {n size : ℕ} → curves ≡ false → Laid col n size (laid_with train base rs false r.elevs o l.elevs_first l.elevs_count) → Laid col n size (join_records curves train r headings base rs i)
-  unfolding join_records
-  grades-joined t h =
-      let same : laid_with train base rs false r.elevs o l.elevs_first l.elevs_count ≡ join_records curves train r headings base rs i =
-      ap₂ (λ (x : Float) (k : LinkNumbers). laid_with train base rs false r.elevs x k.elevs_first k.elevs_count) f e
-      ∙ ap (λ (c : Bool). join_records c train r headings base rs i) (sym t) in
-      rw same at h
+-- laid
+pub lines-joined :
+    (train : TrainParams) (r : Rises) (headings : List Float) (base : Float) (rs : List PathResCoeff) (i : ℕ) (lines : Lines) {l : LinkNumbers} {o : Float} {p : List Float × ℕ × ℕ} {col : List Float} {n size : ℕ}
+    → l ≡ numbers_of r.links i
+    → o ≡ length_at r.lengths i
+    → p ≡ samples_of lines l r.elevs headings
+    → Laid col n size (lay_stretches rs (stretches (is_curves lines) train base (net_of (last_coeff rs)) o (read p)))
+    → Laid col n size (join_records (is_curves lines) train r headings base rs i)
+unfolding join_records
+lines-joined train r headings base rs i lines e f g h = rw (f, samples-read r headings i lines e g) at h
 
 -- ---- those that are left
 

@@ -32,13 +32,11 @@ fn sum_counts(list: &[u32], links: &[u32]) -> Counts
     let mut grades = 0;
     let mut curves = 0;
     let mut powers = 0;
-    let mut k = 0;
-    while k < list.len() {
-        let l = link_numbers(links, list[k] as usize);
+    for i in list {
+        let l = link_numbers(links, *i as usize);
         grades += stretch_count(l.elevs_count as usize);
         curves += stretch_count(l.headings_count as usize);
         powers += l.powers_count as usize;
-        k += 1;
     }
     Counts {
         grades,
@@ -61,10 +59,8 @@ fn sum_limits(
     ensures { result ≡ sum_of (count_at train (speed_sets sets.now codes.now values.now limits.now)) list.now }
 {
     let mut n = 0;
-    let mut k = 0;
-    while k < list.len() {
-        n += link_limit_count(sets, codes, values, limits, list[k] as usize, train);
-        k += 1;
+    for i in list {
+        n += link_limit_count(sets, codes, values, limits, *i as usize, train);
     }
     n
 }

@@ -5,7 +5,7 @@ ghost use Rattle.column.specs.Entries.{filled};
 ghost use Rattle.column.specs.Records.{flat};
 ghost use Rattle.lookup.specs.Coeff.{triple, coeffs};
 ghost use Rattle.path.specs.Records.{link_points, power_limits};
-ghost use Rattle.path_stretches.specs.Stretches.{Laid};
+ghost use Rattle.path_stretches.specs.Stretches.{Laid, is_curves};
 ghost use Rattle.path_stretches.specs.Powers.{HoldsPowers};
 ghost use Rattle.path_join.specs.Listed.{rises, grade_end, records_in, powers_in, sum_of};
 ghost use Rattle.path_join.specs.Joined as spec;
@@ -17,6 +17,7 @@ use link::network::link_numbers;
 use link::train_params::TrainParams;
 use lookup::path_res_coeff::{PathResCoeff, coeff_at, put_coeff};
 use path_stretches::powers::lay_powers;
+use path_stretches::stretch::Lines;
 use path_stretches::walk::{lay_stretches, stretch_count};
 use si::{Length, Ratio};
 
@@ -126,17 +127,15 @@ pub fn join_points(
         (kinds.joined_points links.now lengths.now (link_points n offsets.old numbers.old)
         list.now) }
 {
-    let mut k = 0;
-    while k < list.len() {
+    for (k, i) in list.iter().enumerate() {
         join_point(
             &mut *offsets,
             &mut *numbers,
             n + k,
-            list[k] as usize,
+            *i as usize,
             links,
             lengths,
         );
-        k += 1;
     }
 }
 
@@ -144,7 +143,7 @@ pub fn join_points(
 pub fn join_records(
     col: &mut [f64],
     m: usize,
-    curves: bool,
+    lines: Lines,
     begin: Length,
     list: &[u32],
     links: &[u32],
@@ -155,32 +154,21 @@ pub fn join_records(
 ) -> usize
     requires m_nonzero { 0 < m }
     requires list_len_bound { length list.now ≤ 1025 }
-    requires list_in_bounds { 3 * (m + sum_of (records_in curves links.now) list.now) ≤ length col.old }
+    requires list_in_bounds { 3 * (m + sum_of (records_in (is_curves lines) links.now) list.now) ≤ length col.old }
     requires col_value { col.old ≡ filled +0 (length col.old) (flat triple (coeffs m col.old)) }
     ensures { Laid col.new result (length col.old)
-        (kinds.joined_records curves train
+        (kinds.joined_records (is_curves lines) train
         (rises links.now lengths.now elevs.now) headings.now begin.0 (coeffs m col.old)
         list.now) }
 {
     let mut n = m;
-    let mut base = begin.0;
-    let mut k = 0;
-    while k < list.len() {
-        let link = list[k] as usize;
+    let mut base = begin;
+    for i in list {
+        let link = *i as usize;
         n = join_record(
-            &mut *col,
-            n,
-            curves,
-            Length(base),
-            link,
-            links,
-            lengths,
-            elevs,
-            headings,
-            train,
+            &mut *col, n, lines, base, link, links, lengths, elevs, headings, train,
         );
-        base = grade_end(links, lengths, elevs, Length(base), link).0;
-        k += 1;
+        base = grade_end(links, lengths, elevs, base, link);
     }
     n
 }
@@ -189,7 +177,7 @@ pub fn join_records(
 fn join_record(
     col: &mut [f64],
     m: usize,
-    curves: bool,
+    lines: Lines,
     base: Length,
     i: usize,
     links: &[u32],
@@ -200,26 +188,23 @@ fn join_record(
 ) -> usize
     requires m_nonzero { 0 < m }
     requires i_bound { i < 2 ^ 40 }
-    requires i_in_bounds { 3 * (m + records_in curves links.now i) ≤ length col.old }
+    requires i_in_bounds { 3 * (m + records_in (is_curves lines) links.now i) ≤ length col.old }
     requires col_value { col.old ≡ filled +0 (length col.old) (flat triple (coeffs m col.old)) }
     ensures { Laid col.new result (length col.old)
-        (spec.join_records curves train
+        (spec.join_records (is_curves lines) train
         (rises links.now lengths.now elevs.now) headings.now base.0 (coeffs m col.old) i) }
 {
     let l = link_numbers(links, i);
     let length = Length(column::get(lengths, i));
-    if curves {
-        let first = l.headings_first as usize;
-        let count = l.headings_count as usize;
-        return lay_stretches(
-            &mut *col, m, true, headings, first, count, base, length, train,
-        );
-    }
-    let first = l.elevs_first as usize;
-    let count = l.elevs_count as usize;
-    lay_stretches(
-        &mut *col, m, false, elevs, first, count, base, length, train,
-    )
+    let (pool, first, count) = match lines {
+        Lines::Grades => (elevs, l.elevs_first as usize, l.elevs_count as usize),
+        Lines::Curves => (
+            headings,
+            l.headings_first as usize,
+            l.headings_count as usize,
+        ),
+    };
+    lay_stretches(&mut *col, m, lines, pool, first, count, base, length, train)
 }
 
 // The power limits of the listed links behind the m of two columns; their count afterwards.
@@ -246,10 +231,9 @@ pub fn join_powers(
         (power_limits m powers.old districts.old) list.now) }
 {
     let mut n = m;
-    let mut base = begin.0;
-    let mut k = 0;
-    while k < list.len() {
-        let i = list[k] as usize;
+    let mut base = begin;
+    for link in list {
+        let i = *link as usize;
         let l = link_numbers(links, i);
         let first = l.powers_first as usize;
         let count = l.powers_count as usize;
@@ -261,11 +245,10 @@ pub fn join_powers(
             link_districts,
             first,
             count,
-            Length(base),
+            base,
         );
         n += count;
-        base = grade_end(links, lengths, elevs, Length(base), i).0;
-        k += 1;
+        base = grade_end(links, lengths, elevs, base, i);
     }
     n
 }

@@ -10,6 +10,7 @@ use link::network::link_numbers;
 use link::train_params::TrainParams;
 use path_speeds::add_speeds::link_finite;
 use path_stretches::powers::powers_finite;
+use path_stretches::stretch::Lines;
 use path_stretches::walk::walk_stretches;
 use si::Length;
 
@@ -22,14 +23,7 @@ pub struct PathEnd {
     pub curve_net: Length,
 }
 
-// Whether a link's sums are finite, and where the path stands after it.
-#[derive(Clone, Copy)]
-pub struct Walked {
-    pub finite: bool,
-    pub after: PathEnd,
-}
-
-// Link i, joined where the path stands, for a train of the length `own`.
+// Where the path stands after link i, joined where it stands, for a train of the length `own`; None: some sum is not finite.
 fn walk_link(
     at: PathEnd,
     i: usize,
@@ -45,7 +39,7 @@ fn walk_link(
     link_districts: &[u32],
     own: Length,
     train: TrainParams,
-) -> Walked
+) -> Option<PathEnd>
     requires i_bound { i < 2 ^ 40 }
     requires i_value { few_at train (sets_of
         (table_of links.now lengths.now sets.now elevs.now headings.now limits.now codes.now values.now link_powers.now link_districts.now)) i ≡ true }
@@ -54,30 +48,47 @@ fn walk_link(
 {
     let l = link_numbers(links, i);
     let length = Length(column::get(lengths, i));
-    let end = length.0 + at.link.0;
-    let laid = link_finite(sets, codes, values, limits, i, at.link, own, train);
-    let grade = at.grade;
     let first = l.elevs_first as usize;
     let count = l.elevs_count as usize;
     let net = at.grade_net;
-    let slopes = walk_stretches(false, elevs, first, count, grade, net, length, train);
+    let slopes = walk_stretches(
+        Lines::Grades,
+        elevs,
+        first,
+        count,
+        at.grade,
+        net,
+        length,
+        train,
+    )?;
     let first = l.headings_first as usize;
     let count = l.headings_count as usize;
     let net = at.curve_net;
-    let bends = walk_stretches(true, headings, first, count, grade, net, length, train);
+    let bends = walk_stretches(
+        Lines::Curves,
+        headings,
+        first,
+        count,
+        at.grade,
+        net,
+        length,
+        train,
+    )?;
     let first = l.powers_first as usize;
     let count = l.powers_count as usize;
-    let drawn = powers_finite(link_powers, link_districts, first, count, grade);
+    let drawn = powers_finite(link_powers, link_districts, first, count, at.grade);
+    let laid = link_finite(sets, codes, values, limits, i, at.link, own, train);
+    let end = length.0 + at.link.0;
     let further = ieee::is_finite(end) & (at.link.0 < end);
-    Walked {
-        finite: laid & (further & (slopes.finite & (bends.finite & drawn))),
-        after: PathEnd {
-            link: Length(end),
-            grade: Length(slopes.offset.0),
-            grade_net: Length(slopes.net.0),
-            curve_net: Length(bends.net.0),
-        },
+    if !(laid & (further & drawn)) {
+        return None;
     }
+    Some(PathEnd {
+        link: Length(end),
+        grade: slopes.offset,
+        grade_net: slopes.net,
+        curve_net: bends.net,
+    })
 }
 
 // Question 8 of a list of links, for a train of the length `own`: the first that fails.
@@ -106,11 +117,10 @@ pub fn sums_question(
         (table_of links.now lengths.now sets.now elevs.now headings.now limits.now codes.now values.now link_powers.now link_districts.now) at list.now) }
 {
     let mut here = at;
-    let mut k = 0;
-    while k < list.len() {
-        let w = walk_link(
+    for (k, i) in list.iter().enumerate() {
+        let Some(after) = walk_link(
             here,
-            list[k] as usize,
+            *i as usize,
             links,
             lengths,
             sets,
@@ -123,12 +133,10 @@ pub fn sums_question(
             link_districts,
             own,
             train,
-        );
-        if !w.finite {
+        ) else {
             return Some(k);
-        }
-        here = w.after;
-        k += 1;
+        };
+        here = after;
     }
     None
 }

@@ -2,16 +2,17 @@
 use Prim.Native.Nat.{ℕ, suc, ◌+◌, ◌-◌, ◌*◌, ◌≤◌, ◌<◌}
 use native.Mathlib.Omega.{arith}
 use mathlib.Core.Path.{◌≡◌, refl, sym, ap, ap₂, ◌∙◌}
-use mathlib.Core.Bool.{Bool, true, false, cond}
+use mathlib.Core.Bool.{Bool}
 use mathlib.Core.List.{List, [], ◌∷◌}
 use lib.ListN.{length, get_or, set, length-append, length-set}
 use lib.Seq.{get_or-set_other, set-get_or}
 use lib.Ieee.{Float}
+use Rattle.std.specs.Prelude.{Option, Some, None}
+use Rattle.si.specs.declared.Ratio.{Ratio}
 use Rattle.ieee.specs.Number.{+0}
 use Rattle.column.specs.Entries.{filled}
 use Rattle.column.specs.Records.{flat, record_at, put_record}
 use Rattle.column.specs.declared.Three.{Three}
-use Rattle.column.proofs.Filling.{get_d-within}
 use Rattle.column.proofs.ByEntry.{three-entries, three-put}
 use Rattle.column.proofs.Bridge.{length-records, read-filled, put-filled, push-filled}
 use Rattle.lookup.specs.declared.path_res_coeff.PathResCoeff.{PathResCoeff}
@@ -22,7 +23,7 @@ use Rattle.link.specs.Lists.{up_from}
 use Rattle.link.specs.Table.{Sample}
 use Rattle.path.specs.Records.{last_coeff}
 use Rattle.path_stretches.specs.declared.stretch.Stretch.{Stretch}
-use Rattle.path_stretches.specs.Stretches.{stretch_step, flat_stretch, stretches, with_coefficient, lay_stretch, lay_stretches, Laid}
+use Rattle.path_stretches.specs.Stretches.{stretch_step, flat_stretch, stretches, given, with_coefficient, lay_stretch, lay_stretches, Laid}
 use Rattle.path_stretches.proofs.StretchSteps.{stretches_at, stretches-more, stretches-none, stretches-flat, stretches-all}
 use Rattle.path.proofs.Counts.{last-record}
 
@@ -31,10 +32,6 @@ use Rattle.path.proofs.Counts.{last-record}
 -- the two stores, at record m - 1 and at record m
 abbrev pub stored_at : List Float → ℕ → Stretch → List Float
 stored_at l m s = put_record triple (put_record triple l (m - 1) (with_coefficient s (record_at triple l (m - 1)))) m (res_coeff_record s.offset.0 +0 s.net.0)
-
-with-kept : (keeps : Bool) (c : Float) (g : PathResCoeff) → res_coeff_record (stands_at g) (cond keeps (coefficient_of g) c) (net_of g) ≡ cond keeps g (res_coeff_record (stands_at g) c (net_of g))
-with-kept true c g = refl
-with-kept false c g = refl
 
 -- a record with another coefficient: one entry is stored
 one_entry : (l : List Float) (i : ℕ) (c : Float) → let g = record_at triple l i in put_record triple l i (res_coeff_record (stands_at g) c (net_of g)) ≡ set l (3 * i + 1) c
@@ -50,32 +47,36 @@ one_entry l i c =
     ∙ ap (set (set l (3 * i + 1) c) (3 * i + 2)) (third ∙ sym other)
     ∙ set-get_or (set l (3 * i + 1) c) (3 * i + 2) +0
 
--- its coefficient, read where it lies in the column
-kept_entry : (l : List Float) (m : ℕ) (d : Float) → 0 < m → 3 * (m + 1) ≤ length l → get_or l (3 * m - 2) d ≡ coefficient_of (record_at triple l (m - 1))
-unfolding record_at
-kept_entry l m d some room =
-    let e : 3 * m - 2 ≡ 3 * (m - 1) + 1 = omega arith in
-    get_d-within l (3 * m - 2) d +0 (omega arith) ∙ ap (λ (k : ℕ). get_or l k +0) e ∙ sym (ap (λ (t : Three). t.1) (three-entries l (m - 1)))
+-- the entry with the coefficient given, or as it is
+abbrev pub given_entry : Option Ratio → List Float → ℕ → List Float
+given_entry None l i = l
+given_entry (Some c) l i = set l i c.0
 
--- by the coefficient that the code reads, and the four entries that it stores
-pub stored :
-    (l : List Float) (m : ℕ) (s : Stretch) (d : Float) {kept : Float}
-    → 0 < m
-    → 3 * (m + 1) ≤ length l
-    → kept ≡ cond s.keeps (get_or l (3 * m - 2) d) s.coefficient.0
-    → set (set (set (set l (3 * m - 2) kept) (3 * m) s.offset.0) (3 * m + 1) +0) (3 * m + 2) s.net.0 ≡ stored_at l m s
-unfolding put_record
-stored l m s d some room k =
-    let g = record_at triple l (m - 1) in
-    let c = cond s.keeps (coefficient_of g) s.coefficient.0 in
-    let t = res_coeff_record s.offset.0 +0 s.net.0 in
+-- the coefficient given, stored
+given-stored : (l : List Float) (m : ℕ) (c : Float) → 0 < m → let g = record_at triple l (m - 1) in set l (3 * m - 2) c ≡ put_record triple l (m - 1) (res_coeff_record (stands_at g) c (net_of g))
+given-stored l m c some =
     let e : 3 * m - 2 ≡ 3 * (m - 1) + 1 = omega arith in
-    let one : set l (3 * m - 2) _ ≡ put_record triple l (m - 1) (with_coefficient s g) =
-    ap₂ (set l) e (k ∙ ap (λ (x : Float). cond s.keeps x s.coefficient.0) (kept_entry l m d some room))
-    ∙ sym (one_entry l (m - 1) c)
-    ∙ ap (put_record triple l (m - 1)) (with-kept s.keeps s.coefficient.0 g) in
-    ap (λ (x : List Float). set (set (set x (3 * m) s.offset.0) (3 * m + 1) +0) (3 * m + 2) s.net.0) one
-    ∙ sym (three-put (put_record triple l (m - 1) (with_coefficient s g)) m (record { 0 = s.offset.0; 1 = +0; 2 = s.net.0 }))
+    ap (λ (k : ℕ). set l k c) e ∙ sym (one_entry l (m - 1) c)
+
+-- the record left as it is
+same_stored : (l : List Float) (i : ℕ) → l ≡ put_record triple l i (record_at triple l i)
+unfolding put_record record_at
+same_stored l i =
+    let g = record_at triple l i in
+    let second : coefficient_of g ≡ get_or l (3 * i + 1) +0 = ap (λ (t : Three). t.1) (three-entries l i) in
+    sym (one_entry l i (coefficient_of g) ∙ ap (set l (3 * i + 1)) second ∙ set-get_or l (3 * i + 1) +0)
+
+-- a column with the coefficient given or not
+pub stored_given : (l : List Float) (m : ℕ) (o : Option Ratio) {col : List Float} → 0 < m → col ≡ given_entry o l (3 * m - 2) → col ≡ put_record triple l (m - 1) (given o (record_at triple l (m - 1)))
+stored_given l m None some e = e ∙ same_stored l (m - 1)
+stored_given l m (Some c) some e = e ∙ given-stored l m c.0 some
+
+-- by the three entries that the code stores after it
+pub stored : (l : List Float) (m : ℕ) (s : Stretch) {col : List Float} → col ≡ put_record triple l (m - 1) (with_coefficient s (record_at triple l (m - 1))) → set (set (set col (3 * m) s.offset.0) (3 * m + 1) +0) (3 * m + 2) s.net.0 ≡ stored_at l m s
+unfolding put_record
+stored l m s e =
+    ap (λ (x : List Float). set (set (set x (3 * m) s.offset.0) (3 * m + 1) +0) (3 * m + 2) s.net.0) e
+    ∙ sym (three-put (put_record triple l (m - 1) (with_coefficient s (record_at triple l (m - 1)))) m (record { 0 = s.offset.0; 1 = +0; 2 = s.net.0 }))
 
 -- ---- one stretch laid
 module _ (gs : List PathResCoeff) (s : Stretch) where

@@ -13,8 +13,7 @@ use Rattle.si.specs.Constants.{rev, half_rev, one_degree_per100ft}
 use Rattle.link.specs.declared.train_params.TrainParams.{TrainParams}
 use Rattle.link.specs.Train.{curve0, curve1, curve2}
 use Rattle.link.specs.Table.{Sample}
-use Rattle.path_stretches.specs.declared.stretch.Worked.{Worked}
-use Rattle.path_stretches.specs.Stretches.{radpm, gentle, sharp, curve_work, bend_of, curvature_of, turn_finite, grade_stretch, curve_stretch}
+use Rattle.path_stretches.specs.Stretches.{Worked, radpm, gentle, sharp, curve_work, bend_of, curvature_of, turn_finite, grade_stretch, curve_stretch}
 
 -- a test that the rest implies adds nothing
 implied : (a s : Bool) {b : Bool} → b ≡ s → (T s → T a) → (a && b) ≡ s

@@ -1,11 +1,12 @@
 -- Grades and curves, R42 to R46: what each neighbouring pair of elevations or headings adds to the records. path_tpc.rs. Definitions only.
-use Rattle.std.specs.Prelude.{ℕ, ◌-◌, Bool, true, false, ◌&&◌, cond, List, [], ◌∷◌, ◌++◌, ◌≡◌, eqb, set, Float}
+use Rattle.std.specs.Prelude.{ℕ, ◌-◌, Bool, true, false, ◌&&◌, cond, List, [], ◌∷◌, ◌++◌, ◌≡◌, eqb, set, Float, Option, Some, None}
 use Rattle.std.proofs.Math.ListN as list
 use Rattle.std.specs.Float.Ieee as Ieee
 use Rattle.std.specs.Float.{binary64}
 use Rattle.std.specs.Float.Ieee.{of_bits}
 use Rattle.std.specs.Float.Ieee.Scale.{finite}
 use Rattle.ieee.specs.Number.{+0, size, ◌⊕◌, ◌⊖◌, ◌⊗◌, ◌⊘◌, all_finite}
+use Rattle.si.specs.declared.Ratio.{Ratio}
 use Rattle.si.specs.Constants.{rev, half_rev, one_degree_per100ft}
 use Rattle.lookup.specs.declared.path_res_coeff.PathResCoeff.{PathResCoeff}
 use Rattle.column.specs.Entries.{filled}
@@ -17,14 +18,15 @@ use Rattle.link.specs.Train.{curve0, curve1, curve2}
 use Rattle.link.specs.Table.{Sample}
 use Rattle.path.specs.Records.{last_coeff}
 use Rattle.path_stretches.specs.declared.stretch.Stretch.{Stretch}
-use Rattle.path_stretches.specs.declared.stretch.Worked.{Worked}
-use Rattle.path_stretches.specs.declared.walk.Reached.{Reached}
+use Rattle.path_stretches.specs.declared.stretch.Lines.{Lines}
+use Rattle.path_stretches.specs.declared.stretch.Lines.TheVariants.{Grades, Curves}
+use Rattle.path_stretches.specs.declared.stretch.Reached.{Reached}
 
--- A stretch gives the record before it a coefficient, unless that one keeps its own, and a record with the coefficient 0 at the stretch's end.
+-- A stretch gives the record before it a coefficient, or leaves it its own, and adds a record with the coefficient 0 at the stretch's end.
 -- `finite` says that every result on the way is, as question 8 asks.
 abbrev pub stretch_of : Float → Float → Float → Bool → Stretch
 stretch_of coefficient offset net finite =
-    record { keeps = false; coefficient = record { 0 = coefficient }; offset = record { 0 = offset }; net = record { 0 = net }; finite = finite }
+    record { coefficient = Some (record { 0 = coefficient }); offset = record { 0 = offset }; net = record { 0 = net }; finite = finite }
 
 -- ---- grades
 
@@ -44,6 +46,11 @@ grade_stretch base net prior current =
 -- RADPM, 1.0
 abbrev pub radpm : Float
 radpm = of_bits binary64 0x3ff0_0000_0000_0000
+
+-- a curve's resistance, and whether every result on the way is finite
+pub record Worked : Type 0 where
+  pub value : Ratio
+  pub finite : Bool
 
 -- below one degree per 100 ft
 abbrev pub gentle : Float → Float → Worked
@@ -92,6 +99,10 @@ curve_stretch train base net prior current =
 
 -- ---- the stretches of a link
 
+abbrev pub is_curves : Lines → Bool
+is_curves Grades = false
+is_curves Curves = true
+
 -- of the curves, or of the grades
 abbrev pub stretch_step : Bool → TrainParams → Float → Float → Sample → Sample → Stretch
 stretch_step curves train base net prior current = cond curves (curve_stretch train base net prior current) (grade_stretch base net prior current)
@@ -104,7 +115,7 @@ stretches_from step net prior (current ∷ rest) = step net prior current ∷ st
 -- R44: without elevations or headings one flat record
 abbrev pub flat_stretch : Float → Float → Float → Stretch
 flat_stretch base net length =
-    record { keeps = true; coefficient = record { 0 = +0 }; offset = record { 0 = base ⊕ length }; net = record { 0 = net }; finite = finite (base ⊕ length) }
+    record { coefficient = None; offset = record { 0 = base ⊕ length }; net = record { 0 = net }; finite = finite (base ⊕ length) }
 
 unfoldable pub stretches : Bool → TrainParams → Float → Float → Float → List Sample → List Stretch
 unfolding stretches_from grade_stretch curve_stretch
@@ -132,14 +143,24 @@ net_after net (s ∷ ss) = net_after s.net.0 ss
 abbrev pub is_finite : Stretch → Bool
 is_finite s = s.finite
 
-unfoldable pub reached : Float → Float → List Stretch → Reached
+-- where one ends, if it is finite
+abbrev pub end_of : Stretch → Option Reached
+end_of s = cond s.finite (Some (record { offset = s.offset; net = s.net })) None
+
+-- where all of them end, if each is finite
+unfoldable pub reached : Float → Float → List Stretch → Option Reached
 unfolding offset_after net_after
-reached offset net ss = record { finite = every is_finite ss; offset = record { 0 = offset_after offset ss }; net = record { 0 = net_after net ss } }
+reached offset net ss = cond (every is_finite ss) (Some (record { offset = record { 0 = offset_after offset ss }; net = record { 0 = net_after net ss } })) None
 
 -- ---- laid on records
 
+-- a record with the coefficient given, or as it is
+abbrev pub given : Option Ratio → PathResCoeff → PathResCoeff
+given None g = g
+given (Some c) g = res_coeff_record (stands_at g) c.0 (net_of g)
+
 abbrev pub with_coefficient : Stretch → PathResCoeff → PathResCoeff
-with_coefficient s g = cond s.keeps g (res_coeff_record (stands_at g) s.coefficient.0 (net_of g))
+with_coefficient s g = given s.coefficient g
 
 abbrev pub lay_stretch : List PathResCoeff → Stretch → List PathResCoeff
 lay_stretch gs s = set gs (list.length gs - 1) (with_coefficient s (last_coeff gs)) ++ res_coeff_record s.offset.0 +0 s.net.0 ∷ []

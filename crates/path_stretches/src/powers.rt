@@ -33,13 +33,11 @@ pub fn powers_finite(
     requires { first + count < 2 ^ 40 }
     ensures { result ≡ every (spec.power_finite base.0) (up_from (power_at link_powers.now link_districts.now) first count) }
 {
-    let mut i = first;
-    while i < first + count {
+    for i in first..first + count {
         let l = placed_power(base, power_limit_at(link_powers, link_districts, i));
         if !(ieee::is_finite(l.offset_start.0) & ieee::is_finite(l.offset_end.0)) {
             return false;
         }
-        i += 1;
     }
     true
 }
@@ -63,12 +61,10 @@ pub fn lay_powers(
         (power_limits m powers.old districts.old ++ map (spec.placed_power base.0)
         (up_from (power_at link_powers.now link_districts.now) first count)) }
 {
-    let mut k = 0;
-    while k < count {
+    for k in 0..count {
         let l = placed_power(base, power_limit_at(link_powers, link_districts, first + k));
         let t = Three(l.offset_start.0, l.offset_end.0, l.power_limit.0);
         column::put_record(&mut *powers, m + k, t);
         column::set(&mut *districts, m + k, l.district_id);
-        k += 1;
     }
 }

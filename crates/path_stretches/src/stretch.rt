@@ -8,21 +8,43 @@ use link::elev::{Elev, Heading};
 use link::train_params::TrainParams;
 use si::{Curvature, Length, Ratio};
 
-// What it adds: a coefficient for the record before, unless that keeps its own, and a record at the stretch's end.
+// The grades of a link, between its elevations, or its curves, between its headings.
+#[derive(Clone, Copy, Debug, PartialEq, Eq)]
+pub enum Lines {
+    Grades,
+    Curves,
+}
+
+// What a stretch adds: a coefficient for the record before (None: that keeps its own), and a record at the stretch's end.
+// `finite` says whether every result on the way is; the record is laid as it is either way.
 #[derive(Clone, Copy)]
 pub struct Stretch {
-    pub keeps: bool,
-    pub coefficient: Ratio,
+    pub coefficient: Option<Ratio>,
     pub offset: Length,
     pub net: Length,
     pub finite: bool,
 }
 
-// A curve's resistance, and whether every result on the way is finite.
+// Where stretches end.
 #[derive(Clone, Copy)]
-pub struct Worked {
-    pub value: Ratio,
-    pub finite: bool,
+pub struct Reached {
+    pub offset: Length,
+    pub net: Length,
+}
+
+impl Stretch {
+    // Where it ends, if every result on the way is finite.
+    pub fn end(self) -> Option<Reached>
+        ensures { result ≡ spec.end_of self }
+    {
+        if self.finite {
+            return Some(Reached {
+                offset: self.offset,
+                net: self.net,
+            });
+        }
+        None
+    }
 }
 
 // A link without elevations, or without headings.
@@ -31,8 +53,7 @@ pub fn flat_stretch(base: Length, net: Length, length: Length) -> Stretch
 {
     let offset = base.0 + length.0;
     Stretch {
-        keeps: true,
-        coefficient: Ratio(0.0),
+        coefficient: None,
         offset: Length(offset),
         net,
         finite: ieee::is_finite(offset),
@@ -52,8 +73,7 @@ pub fn grade_stretch(base: Length, net: Length, prior: Elev, current: Elev) -> S
     let finite = ieee::is_finite(slope)
         & (ieee::is_finite(run) & (ieee::is_finite(after) & ieee::is_finite(offset)));
     Stretch {
-        keeps: false,
-        coefficient: Ratio(slope),
+        coefficient: Some(Ratio(slope)),
         offset: Length(offset),
         net: Length(after),
         finite,
@@ -61,30 +81,19 @@ pub fn grade_stretch(base: Length, net: Length, prior: Elev, current: Elev) -> S
 }
 
 // The resistance of a curve: by the first coefficient below one degree per 100 ft, by all three from there on.
-// A result that is finite has only finite results before it.
-fn curve_work(c0: Ratio, c1: Ratio, c2: Ratio, curvature: Curvature) -> Worked
-    ensures { result ≡ spec.curve_work c0.0 c1.0 c2.0 curvature.0 }
+// Where it is finite, so is every result on the way to it.
+fn curve_work(c0: Ratio, c1: Ratio, c2: Ratio, curvature: Curvature) -> Ratio
+    ensures { result ≡ (spec.curve_work c0.0 c1.0 c2.0 curvature.0).value }
 {
     let one = si::one_degree_per_100ft().0;
     if curvature.0 < one {
-        let c = c0.0 * curvature.0;
-        return Worked {
-            value: Ratio(c),
-            finite: ieee::is_finite(c),
-        };
+        return Ratio(c0.0 * curvature.0);
     }
     let over = curvature.0 - one;
     let a = c0.0 * one;
     let b = c1.0 * over;
-    let ab = a + b;
     let q = c2.0 * over;
-    let qq = q * over;
-    let c = qq / 1.0;
-    let sum = ab + c;
-    Worked {
-        value: Ratio(sum),
-        finite: ieee::is_finite(sum),
-    }
+    Ratio(a + b + q * over / 1.0)
 }
 
 // The turn between two headings over the run, as curvature.
@@ -113,13 +122,12 @@ pub fn curve_stretch(
         Ratio(train.curve_coeff_2.0),
         curvature_of(turn, run),
     );
-    let coefficient = work.value.0 / 1.0;
+    let coefficient = work.0 / 1.0;
     let rise = coefficient * run;
     let after = net.0 + rise;
     let offset = base.0 + current.offset.0;
     Stretch {
-        keeps: false,
-        coefficient: Ratio(coefficient),
+        coefficient: Some(Ratio(coefficient)),
         offset: Length(offset),
         net: Length(after),
         finite: ieee::is_finite(after) & ieee::is_finite(offset),

@@ -10,19 +10,11 @@ ghost use Rattle.link.specs.Table.{sample_at};
 ghost use Rattle.path.specs.Records.{last_coeff};
 ghost use Rattle.path_stretches.specs.Stretches as spec;
 
-use crate::stretch::{Stretch, curve_stretch, flat_stretch, grade_stretch};
+use crate::stretch::{Lines, Reached, Stretch, curve_stretch, flat_stretch, grade_stretch};
 use link::elev::{elev_at, heading_at};
 use link::train_params::TrainParams;
 use lookup::path_res_coeff::coeff_at;
 use si::Length;
-
-// Where a walk ends, and whether every result on the way is finite.
-#[derive(Clone, Copy)]
-pub struct Reached {
-    pub finite: bool,
-    pub offset: Length,
-    pub net: Length,
-}
 
 // How many records `count` samples give.
 pub fn stretch_count(count: usize) -> usize
@@ -36,7 +28,7 @@ pub fn stretch_count(count: usize) -> usize
 
 // The stretch from sample i - 1 to sample i.
 fn stretch_at(
-    curves: bool,
+    lines: Lines,
     pool: &[f64],
     i: usize,
     base: Length,
@@ -44,23 +36,23 @@ fn stretch_at(
     train: TrainParams,
 ) -> Stretch
     requires { 0 < i }
-    ensures { result ≡ spec.stretch_step curves train base.0 net.0 (sample_at pool.now (i - 1)) (sample_at pool.now i) }
+    ensures { result ≡ spec.stretch_step (spec.is_curves lines) train base.0 net.0 (sample_at pool.now (i - 1)) (sample_at pool.now i) }
 {
-    if curves {
-        return curve_stretch(
+    match lines {
+        Lines::Grades => grade_stretch(base, net, elev_at(pool, i - 1), elev_at(pool, i)),
+        Lines::Curves => curve_stretch(
             base,
             net,
             heading_at(pool, i - 1),
             heading_at(pool, i),
             train,
-        );
+        ),
     }
-    grade_stretch(base, net, elev_at(pool, i - 1), elev_at(pool, i))
 }
 
-// Where the stretches of `count` samples from `first` on end.
+// Where the stretches of `count` samples from `first` on end; None: some result on the way is not finite.
 pub fn walk_stretches(
-    curves: bool,
+    lines: Lines,
     pool: &[f64],
     first: usize,
     count: usize,
@@ -68,35 +60,19 @@ pub fn walk_stretches(
     net: Length,
     length: Length,
     train: TrainParams,
-) -> Reached
+) -> Option<Reached>
     requires { first + count < 2 ^ 40 }
     ensures { result ≡ spec.reached base.0 net.0
-        (spec.stretches curves train base.0 net.0 length.0 (up_from (sample_at pool.now) first count)) }
+        (spec.stretches (spec.is_curves lines) train base.0 net.0 length.0 (up_from (sample_at pool.now) first count)) }
 {
     if count == 0 {
-        let s = flat_stretch(base, net, length);
-        return Reached {
-            finite: s.finite,
-            offset: Length(s.offset.0),
-            net: Length(s.net.0),
-        };
+        return flat_stretch(base, net, length).end();
     }
-    let mut finite = true;
-    let mut offset = base.0;
-    let mut last = net.0;
-    let mut i = first + 1;
-    while i < first + count {
-        let s = stretch_at(curves, pool, i, base, Length(last), train);
-        finite = finite & s.finite;
-        offset = s.offset.0;
-        last = s.net.0;
-        i += 1;
+    let mut at = Reached { offset: base, net };
+    for i in first + 1..first + count {
+        at = stretch_at(lines, pool, i, base, at.net, train).end()?;
     }
-    Reached {
-        finite,
-        offset: Length(offset),
-        net: Length(last),
-    }
+    Some(at)
 }
 
 // Lays a stretch on the m records of a column: the coefficient of the last one, and one record more.
@@ -108,8 +84,9 @@ fn lay_stretch(col: &mut [f64], m: usize, s: Stretch)
         (res_coeff_record s.offset.0 +0 s.net.0) }
 {
     let k = 3 * m;
-    let kept = if s.keeps { col[k - 2] } else { s.coefficient.0 };
-    col[k - 2] = kept;
+    if let Some(c) = s.coefficient {
+        col[k - 2] = c.0;
+    }
     col[k] = s.offset.0;
     col[k + 1] = 0.0;
     col[k + 2] = s.net.0;
@@ -119,7 +96,7 @@ fn lay_stretch(col: &mut [f64], m: usize, s: Stretch)
 pub fn lay_stretches(
     col: &mut [f64],
     m: usize,
-    curves: bool,
+    lines: Lines,
     pool: &[f64],
     first: usize,
     count: usize,
@@ -133,22 +110,20 @@ pub fn lay_stretches(
     requires col_value { col.old ≡ filled +0 (list.length col.old) (flat triple (coeffs m col.old)) }
     ensures { spec.Laid col.new result (list.length col.old)
         (spec.lay_stretches (coeffs m col.old)
-        (spec.stretches curves train base.0 (net_of (last_coeff (coeffs m col.old))) length.0
+        (spec.stretches (spec.is_curves lines) train base.0 (net_of (last_coeff (coeffs m col.old))) length.0
         (up_from (sample_at pool.now) first count))) }
 {
-    let mut net = coeff_at(&*col, m - 1).res_net.0;
+    let mut net = coeff_at(&*col, m - 1).res_net;
     if count == 0 {
-        lay_stretch(&mut *col, m, flat_stretch(base, Length(net), length));
+        lay_stretch(&mut *col, m, flat_stretch(base, net, length));
         return m + 1;
     }
     let mut n = m;
-    let mut i = first + 1;
-    while i < first + count {
-        let s = stretch_at(curves, pool, i, base, Length(net), train);
-        net = s.net.0;
+    for i in first + 1..first + count {
+        let s = stretch_at(lines, pool, i, base, net, train);
+        net = s.net;
         lay_stretch(&mut *col, n, s);
         n += 1;
-        i += 1;
     }
     n
 }

@@ -7,40 +7,25 @@ use Rattle.path_speeds.proofs.Applying.{count_small}
 use Rattle.path_join.proofs.Summed.{sum_fits, sum-next, sum_done}
 use Rattle.path_join.proofs.fit.sum_limits.Goals as goal
 
-pub offset_bounds-list-k : goal.offset_bounds-list-k
-offset_bounds-list-k c = record { fits = omega (arith, c.loop-k-test.true, c.requires.list_len_bound) }
-
-pub bounds-list-k : goal.bounds-list-k
-bounds-list-k c = c.loop-k-test.true
-
-pub overflow_cast-list : goal.overflow_cast-list
-overflow_cast-list c = record { fits = omega (arith, c.type_inv.list c.loop-k.k) }
-
 pub link_limit_count-n-requires : goal.link_limit_count-n-requires
 link_limit_count-n-requires c =
     let a = c.args in
-    let q = speed_sets a.sets.now a.codes.now a.values.now a.limits.now in record { i_bound = omega (arith, c.type_inv.list c.loop-k.k); i_value = every_in (few_at a.train q) a.list.now c.loop-k.k 0 c.loop-k-test.true c.requires.list_value }
+    let q = speed_sets a.sets.now a.codes.now a.values.now a.limits.now in record { i_bound = omega (arith, c.type_inv.list c.loop-i.i-index); i_value = every_in (few_at a.train q) a.list.now c.loop-i.i-index 0 c.loop-i-test.true c.requires.list_value }
 
 pub overflow_add-n : goal.overflow_add-n
 overflow_add-n c =
     let a = c.args in
     let q = speed_sets a.sets.now a.codes.now a.values.now a.limits.now in
-    record { fits = sum_fits (count_at a.train q) a.list.now c.loop-k.k c.loop-k.n c.loop-k-test.true c.loop-k.invariant c.link_limit_count-n.ensures (λ (n : ℕ). count_small a.train q n c.type_inv.sets) c.requires.list_len_bound }
+    record { fits = sum_fits (count_at a.train q) a.list.now c.loop-i.i-index c.loop-i.n c.loop-i-test.true c.loop-i.invariant c.link_limit_count-n.ensures (λ (n : ℕ). count_small a.train q n c.type_inv.sets) c.requires.list_len_bound }
 
-pub overflow_add-k : goal.overflow_add-k
-overflow_add-k c = record { fits = omega (arith, c.loop-k-test.true, c.requires.list_len_bound) }
-
-pub loop-k-smaller : goal.loop-k-smaller
-loop-k-smaller c = omega (arith, c.loop-k-test.true)
-
-pub loop-k-preserved : goal.loop-k-preserved
-loop-k-preserved c =
+pub loop-i-preserved : goal.loop-i-preserved
+loop-i-preserved c =
     let a = c.args in
     let q = speed_sets a.sets.now a.codes.now a.values.now a.limits.now in
-    sum-next (count_at a.train q) a.list.now c.loop-k.k c.loop-k.n c.loop-k-test.true c.loop-k.invariant c.link_limit_count-n.ensures
+    sum-next (count_at a.train q) a.list.now c.loop-i.i-index c.loop-i.n c.loop-i-test.true c.loop-i.invariant c.link_limit_count-n.ensures
 
 pub returns : goal.returns
 returns c =
     let a = c.args in
     let q = speed_sets a.sets.now a.codes.now a.values.now a.limits.now in
-    sum_done (count_at a.train q) a.list.now c.loop-k.k c.loop-k.n c.loop-k-test.false c.loop-k.invariant
+    sum_done (count_at a.train q) a.list.now c.loop-i.i-index c.loop-i.n c.loop-i-test.false c.loop-i.invariant

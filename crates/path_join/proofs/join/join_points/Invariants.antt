@@ -1,5 +1,5 @@
 -- `join_points`: with the points of the links that are left the points so far are those of all.
-use Prim.Native.Nat.{◌+◌, ◌-◌, ◌≤◌}
+use Prim.Native.Nat.{◌+◌}
 use mathlib.Core.Path.{◌≡◌}
 use lib.ListN.{length, drop}
 use Rattle.path.specs.Records.{link_points}
@@ -9,8 +9,4 @@ use Rattle.path_join.proofs.join.join_points.Given as goal
 
 abbrev pub invariant-loop-k : goal.invariant-loop-k
 invariant-loop-k l =
-    (l.k ≤ length l.list) × (length l.offsets ≡ length l.initial.offsets) × (length l.numbers ≡ length l.initial.numbers) × PointsLeft l.links l.lengths (joined_points l.links l.lengths (link_points l.n l.initial.offsets l.initial.numbers) l.list) (drop l.k l.list) l.offsets l.numbers (l.n + l.k)
-
-abbrev pub decreases-loop-k : goal.decreases-loop-k
-decreases-loop-k l =
-    length l.list - l.k
+    (length l.offsets ≡ length l.initial.offsets) × (length l.numbers ≡ length l.initial.numbers) × PointsLeft l.links l.lengths (joined_points l.links l.lengths (link_points l.n l.initial.offsets l.initial.numbers) l.list) (drop l.k l.list) l.offsets l.numbers (l.n + l.k)

@@ -7,40 +7,25 @@ use Rattle.path_speeds.specs.Limits.{sets_of, few_at}
 use Rattle.path_join.proofs.Carried.{sums-pass, sums-fail, sums-end}
 use Rattle.path_join.proofs.path_end.sums_question.Goals as goal
 
-pub offset_bounds-list-k : goal.offset_bounds-list-k
-offset_bounds-list-k c = record { fits = omega (arith, c.loop-k-test.true, c.well_formed) }
-
-pub bounds-list-k : goal.bounds-list-k
-bounds-list-k c = c.loop-k-test.true
-
-pub overflow_cast-list : goal.overflow_cast-list
-overflow_cast-list c = record { fits = omega (arith, c.type_inv.list c.loop-k.k) }
-
-pub walk_link-w-requires : goal.walk_link-w-requires
-walk_link-w-requires c =
+pub walk_link-requires : goal.walk_link-requires
+walk_link-requires c =
     let a = c.args in
     let t = table_of a.links.now a.lengths.now a.sets.now a.elevs.now a.headings.now a.limits.now a.codes.now a.values.now a.link_powers.now a.link_districts.now in
     let k = c.loop-k.k in record { i_bound = omega (arith, c.type_inv.list k); i_value = every_in (few_at a.train (sets_of t)) a.list.now k 0 c.loop-k-test.true c.requires }
 
-pub returns-then-not-w : goal.returns-then-not-w
-returns-then-not-w c =
+pub returns-in_default : goal.returns-in_default
+returns-in_default c =
     let a = c.args in
     let t = table_of a.links.now a.lengths.now a.sets.now a.elevs.now a.headings.now a.limits.now a.codes.now a.values.now a.link_powers.now a.link_districts.now in
     let k = c.loop-k.k in
-    sym (sums-fail a.train a.own.0 t c.loop-k.here a.list.now k c.loop-k-test.true c.walk_link-w.ensures c.if-not-w.true) ∙ c.loop-k.invariant
-
-pub overflow_add-k : goal.overflow_add-k
-overflow_add-k c = record { fits = omega (arith, c.loop-k-test.true, c.well_formed) }
-
-pub loop-k-smaller : goal.loop-k-smaller
-loop-k-smaller c = omega (arith, c.loop-k-test.true)
+    sym (sums-fail a.train a.own.0 t c.loop-k.here a.list.now k c.loop-k-test.true c.walk_link.ensures c.in_default.is) ∙ c.loop-k.invariant
 
 pub loop-k-preserved : goal.loop-k-preserved
 loop-k-preserved c =
     let a = c.args in
     let t = table_of a.links.now a.lengths.now a.sets.now a.elevs.now a.headings.now a.limits.now a.codes.now a.values.now a.link_powers.now a.link_districts.now in
     let k = c.loop-k.k in
-    sym (sums-pass a.train a.own.0 t c.loop-k.here a.list.now k c.loop-k-test.true c.walk_link-w.ensures c.if-not-w.false) ∙ c.loop-k.invariant
+    sym (sums-pass a.train a.own.0 t c.loop-k.here a.list.now k c.loop-k-test.true c.walk_link.ensures c.in-Some.is) ∙ c.loop-k.invariant
 
 pub returns : goal.returns
 returns c =

@@ -1,7 +1,6 @@
 -- `sums_question`: from link k on the first no is that of all.
-use Prim.Native.Nat.{◌-◌}
 use mathlib.Core.Path.{◌≡◌}
-use lib.ListN.{length, drop}
+use lib.ListN.{drop}
 use Rattle.link.specs.Lists.{first_no, first_no_from}
 use Rattle.link.specs.Table.{table_of}
 use Rattle.path_join.specs.Sums.{sums_from}
@@ -9,6 +8,3 @@ use Rattle.path_join.proofs.path_end.sums_question.Given as goal
 
 abbrev pub invariant-loop-k : goal.invariant-loop-k
 invariant-loop-k l = first_no_from l.k (sums_from l.train l.own.0 (table_of l.links l.lengths l.sets l.elevs l.headings l.limits l.codes l.values l.link_powers l.link_districts) l.here (drop l.k l.list)) ≡ first_no (sums_from l.train l.own.0 (table_of l.links l.lengths l.sets l.elevs l.headings l.limits l.codes l.values l.link_powers l.link_districts) l.initial.here l.list)
-
-abbrev pub decreases-loop-k : goal.decreases-loop-k
-decreases-loop-k l = length l.list - l.k

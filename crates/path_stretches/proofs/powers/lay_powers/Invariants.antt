@@ -1,5 +1,4 @@
 -- `lay_powers`: the two columns hold the limits that were there and the first k of the link.
-use Prim.Native.Nat.{◌-◌, ◌≤◌}
 use mathlib.Core.Path.{◌≡◌}
 use mathlib.Core.List.{◌++◌, map}
 use lib.ListN.{length}
@@ -11,7 +10,4 @@ use Rattle.path_stretches.proofs.powers.lay_powers.Given as goal
 
 abbrev pub invariant-loop-k : goal.invariant-loop-k
 invariant-loop-k l =
-    (l.k ≤ l.count) × (length l.powers ≡ length l.initial.powers) × (length l.districts ≡ length l.initial.districts) × HoldsPowers l.powers l.districts (power_limits l.m l.initial.powers l.initial.districts ++ map (placed_power l.base.0) (up_from (power_at l.link_powers l.link_districts) l.first l.k))
-
-abbrev pub decreases-loop-k : goal.decreases-loop-k
-decreases-loop-k l = l.count - l.k
+    (length l.powers ≡ length l.initial.powers) × (length l.districts ≡ length l.initial.districts) × HoldsPowers l.powers l.districts (power_limits l.m l.initial.powers l.initial.districts ++ map (placed_power l.base.0) (up_from (power_at l.link_powers l.link_districts) l.first l.k))

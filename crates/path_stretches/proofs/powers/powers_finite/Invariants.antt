@@ -1,5 +1,5 @@
 -- `powers_finite`: from limit i on the answer is that from the first on.
-use Prim.Native.Nat.{◌+◌, ◌-◌, ◌≤◌}
+use Prim.Native.Nat.{◌+◌, ◌-◌}
 use mathlib.Core.Path.{◌≡◌}
 use Rattle.link.specs.Lists.{every, up_from}
 use Rattle.link.specs.Table.{power_at}
@@ -9,7 +9,4 @@ use Rattle.path_stretches.proofs.powers.powers_finite.Given as goal
 abbrev pub invariant-loop-i : goal.invariant-loop-i
 invariant-loop-i l =
     let at = power_at l.link_powers l.link_districts in
-    (l.i ≤ l.first + l.count) × (every (power_finite l.base.0) (up_from at l.i (l.first + l.count - l.i)) ≡ every (power_finite l.base.0) (up_from at l.first l.count))
-
-abbrev pub decreases-loop-i : goal.decreases-loop-i
-decreases-loop-i l = l.first + l.count - l.i
+    every (power_finite l.base.0) (up_from at l.i (l.first + l.count - l.i)) ≡ every (power_finite l.base.0) (up_from at l.first l.count)

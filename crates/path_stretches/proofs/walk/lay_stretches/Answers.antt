@@ -4,7 +4,7 @@ use native.Mathlib.Omega.{arith}
 use mathlib.Core.Path.{refl, ◌∙◌}
 use lib.ListN.{length}
 use Rattle.link.specs.Table.{sample_at}
-use Rattle.path_stretches.specs.Stretches.{stretch_step}
+use Rattle.path_stretches.specs.Stretches.{is_curves, stretch_step}
 use Rattle.path_stretches.proofs.StretchSteps.{count_none, count-some, count-range}
 use Rattle.path_stretches.proofs.StretchesLaid.{going_start, going_next, going_end, laid-flat, laid-all}
 use Rattle.path_stretches.proofs.walk.lay_stretches.Goals as goal
@@ -25,15 +25,12 @@ pub returns-then-count-eq0 : goal.returns-then-count-eq0
 returns-then-count-eq0 c =
     let a = c.args in
     let room : 3 * (a.m + 1) ≤ length a.col.now = omega (arith, c.requires.count_bound_2, count-range (sample_at a.pool.now) a.first a.count, count_none a.count c.if-count-eq0.true) in
-    laid-flat a.curves a.train a.base.0 a.length.0 (sample_at a.pool.now) a.first a.count a.col.now a.m c.requires.m_nonzero c.coeff_at-net.ensures c.requires.col_value room c.if-count-eq0.true c.flat_stretch.ensures c.lay_stretch.ensures
+    laid-flat (is_curves a.lines) a.train a.base.0 a.length.0 (sample_at a.pool.now) a.first a.count a.col.now a.m c.requires.m_nonzero c.coeff_at.ensures c.requires.col_value room c.if-count-eq0.true c.flat_stretch.ensures c.lay_stretch.ensures
 
 pub loop-i-init : goal.loop-i-init
 loop-i-init c =
     let a = c.args in
-    (refl, c.requires.m_nonzero, omega arith, omega arith, omega arith, going_start a.col.now a.m c.requires.col_value)
-
-pub stretch_at-s-requires : goal.stretch_at-s-requires
-stretch_at-s-requires c = c.loop-i.invariant.2
+    (refl, c.requires.m_nonzero, omega arith, going_start a.col.now a.m c.requires.col_value)
 
 pub lay_stretch-requires-in-loop-i : goal.lay_stretch-requires-in-loop-i
 lay_stretch-requires-in-loop-i c =
@@ -50,8 +47,8 @@ loop-i-preserved c =
     let a = c.args in
     let l = c.loop-i in
     let room : 3 * (l.n + 1) ≤ length a.col.now = omega (arith, c.requires.count_bound_2, count-range (sample_at a.pool.now) a.first a.count, count-some a.count (omega arith)) in
-    let next = going_next (stretch_step a.curves a.train a.base.0) (sample_at a.pool.now) (a.first + a.count) l.net l.i l.invariant.5 (omega arith) l.invariant.1 room c.stretch_at-s.ensures c.lay_stretch-in-loop-i.ensures in
-    (c.lay_stretch-in-loop-i.auto.col ∙ l.invariant.0, omega arith, omega arith, omega arith, omega arith, next)
+    let next = going_next (stretch_step (is_curves a.lines) a.train a.base.0) (sample_at a.pool.now) (a.first + a.count) l.net.0 l.i l.invariant.3 (omega arith) l.invariant.1 room c.stretch_at-s.ensures c.lay_stretch-in-loop-i.ensures in
+    (c.lay_stretch-in-loop-i.auto.col ∙ l.invariant.0, omega arith, omega arith, next)
 
 pub shape_of-col : goal.shape_of-col
 shape_of-col c = c.loop-i.invariant.0
@@ -60,5 +57,5 @@ pub returns : goal.returns
 returns c =
     let a = c.args in
     let l = c.loop-i in
-    let laid = going_end (stretch_step a.curves a.train a.base.0) (sample_at a.pool.now) (a.first + a.count) l.net l.i l.invariant.5 (omega arith) in
-    laid-all a.curves a.train a.base.0 a.length.0 (sample_at a.pool.now) a.first a.count a.col.now a.m c.requires.m_nonzero c.coeff_at-net.ensures (omega arith) laid
+    let laid = going_end (stretch_step (is_curves a.lines) a.train a.base.0) (sample_at a.pool.now) (a.first + a.count) l.net.0 l.i l.invariant.3 (omega arith) in
+    laid-all (is_curves a.lines) a.train a.base.0 a.length.0 (sample_at a.pool.now) a.first a.count a.col.now a.m c.requires.m_nonzero c.coeff_at.ensures (omega arith) laid
