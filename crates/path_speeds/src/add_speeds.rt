@@ -98,15 +98,13 @@ pub fn points_finite(
         (spec.point_finite train length.0 (spec.speed_sets sets.now codes.now values.now limits.now))
         (up_from (point_at offsets.now numbers.now) 0 count)) }
 {
-    let mut k = 0;
-    while k < count {
+    for k in 0..count {
         let p = link_point_at(offsets, numbers, k);
         let i = p.link_idx as usize;
         let base = Length(p.offset.0);
         if !link_finite(sets, codes, values, limits, i, base, length, train) {
             return Some(k);
         }
-        k += 1;
     }
     None
 }
@@ -130,11 +128,9 @@ pub fn points_count(
         (up_from (point_at offsets.now numbers.now) 0 count) }
 {
     let mut n = 0;
-    let mut k = 0;
-    while k < count {
+    for k in 0..count {
         let p = link_point_at(offsets, numbers, k);
         n += link_limit_count(sets, codes, values, limits, p.link_idx as usize, train);
-        k += 1;
     }
     n
 }
@@ -168,15 +164,13 @@ pub fn lay_links(
         (up_from (point_at offsets.now numbers.now) first count)) }
 {
     let mut m = n;
-    let mut k = first;
-    while k < first + count {
+    for k in first..first + count {
         let p = link_point_at(offsets, numbers, k);
         let i = p.link_idx as usize;
         let base = Length(p.offset.0);
         m = add_speeds(
             &mut *col, m, sets, codes, values, limits, i, base, length, train,
         );
-        k += 1;
     }
     m
 }

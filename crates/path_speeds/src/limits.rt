@@ -82,12 +82,10 @@ pub fn limits_finite(
     let tail = tail_of(s, length);
     let first = s.limits_first as usize;
     let end = first + (s.limits_count as usize);
-    let mut i = first;
-    while i < end {
+    for i in first..end {
         if !laid_finite(speed_limit_at(limits, i), base, tail, top) {
             return false;
         }
-        i += 1;
     }
     true
 }
@@ -99,12 +97,10 @@ pub fn limits_count(limits: &[f64], s: SpeedSet, top: Velocity) -> usize
     let first = s.limits_first as usize;
     let end = first + (s.limits_count as usize);
     let mut n = 0;
-    let mut i = first;
-    while i < end {
+    for i in first..end {
         if speed_limit_at(limits, i).speed.0 < top.0 {
             n += 1;
         }
-        i += 1;
     }
     n
 }
@@ -129,13 +125,11 @@ pub fn lay_limits(
     let first = s.limits_first as usize;
     let end = first + (s.limits_count as usize);
     let mut m = n;
-    let mut i = first;
-    while i < end {
+    for i in first..end {
         let l = speed_limit_at(limits, i);
         if l.speed.0 < top.0 {
             m = insert_speed(&mut *col, m, placed(l, base, tail));
         }
-        i += 1;
     }
     m
 }

@@ -11,6 +11,3 @@ use Rattle.path_speeds.proofs.add_speeds.lay_links.Given as goal
 
 abbrev pub invariant-loop-k : goal.invariant-loop-k
 invariant-loop-k l = (every (point_few l.train (speed_sets l.sets l.codes l.values l.limits)) (up_from (point_at l.offsets l.numbers) l.k (l.first + l.count - l.k)) ≡ true) × LinksLeft l.train l.length.0 (speed_sets l.sets l.codes l.values l.limits) l.initial.col (lay_links l.train l.length.0 (speed_sets l.sets l.codes l.values l.limits) (points l.n l.initial.col) (up_from (point_at l.offsets l.numbers) l.first l.count)) (up_from (point_at l.offsets l.numbers) l.k (l.first + l.count - l.k)) l.col l.m
-
-abbrev pub decreases-loop-k : goal.decreases-loop-k
-decreases-loop-k l = l.first + l.count - l.k

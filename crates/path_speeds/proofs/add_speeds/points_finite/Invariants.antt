@@ -10,6 +10,3 @@ use Rattle.path_speeds.proofs.add_speeds.points_finite.Given as goal
 
 abbrev pub invariant-loop-k : goal.invariant-loop-k
 invariant-loop-k l = (every (point_few l.train (speed_sets l.sets l.codes l.values l.limits)) (up_from (point_at l.offsets l.numbers) l.k (l.count - l.k)) ≡ true) × (first_no_from l.k (map (point_finite l.train l.length.0 (speed_sets l.sets l.codes l.values l.limits)) (up_from (point_at l.offsets l.numbers) l.k (l.count - l.k))) ≡ first_no (map (point_finite l.train l.length.0 (speed_sets l.sets l.codes l.values l.limits)) (up_from (point_at l.offsets l.numbers) 0 l.count)))
-
-abbrev pub decreases-loop-k : goal.decreases-loop-k
-decreases-loop-k l = l.count - l.k

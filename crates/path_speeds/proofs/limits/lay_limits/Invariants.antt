@@ -8,6 +8,3 @@ use Rattle.path_speeds.proofs.limits.lay_limits.Given as goal
 
 abbrev pub invariant-loop-i : goal.invariant-loop-i
 invariant-loop-i l = LimitsLeft l.initial.col (lay_all (points l.n l.initial.col) (to_lay l.top.0 l.base.0 l.tail.0 l.limits l.end l.first)) (to_lay l.top.0 l.base.0 l.tail.0 l.limits l.end l.i) l.col l.m
-
-abbrev pub decreases-loop-i : goal.decreases-loop-i
-decreases-loop-i l = l.end - l.i

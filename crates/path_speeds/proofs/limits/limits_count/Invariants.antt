@@ -9,6 +9,3 @@ use Rattle.path_speeds.proofs.limits.limits_count.Given as goal
 
 abbrev pub invariant-loop-i : goal.invariant-loop-i
 invariant-loop-i l = (l.n ≤ l.i) × (l.n + length (lowering l.top.0 (up_from (limit_at l.limits) l.i (l.end - l.i))) ≡ length (lowering l.top.0 (up_from (limit_at l.limits) l.first (l.end - l.first))))
-
-abbrev pub decreases-loop-i : goal.decreases-loop-i
-decreases-loop-i l = l.end - l.i

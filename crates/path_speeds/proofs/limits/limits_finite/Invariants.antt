@@ -8,6 +8,3 @@ use Rattle.path_speeds.proofs.limits.limits_finite.Given as goal
 
 abbrev pub invariant-loop-i : goal.invariant-loop-i
 invariant-loop-i l = every (laid_finite l.top.0 l.base.0 l.tail.0) (up_from (limit_at l.limits) l.i (l.end - l.i)) ≡ every (laid_finite l.top.0 l.base.0 l.tail.0) (up_from (limit_at l.limits) l.first (l.end - l.first))
-
-abbrev pub decreases-loop-i : goal.decreases-loop-i
-decreases-loop-i l = l.end - l.i
