@@ -61,12 +61,12 @@ fn start_path_end(
 {
     let grade = coeff_at(grades, p.grade_count - 1);
     let curve = coeff_at(curves, p.curve_count - 1);
-    let net = starting_net(p.grade_count, Length(grade.res_net.0), list, links, elevs);
+    let net = starting_net(p.grade_count, grade.res_net, list, links, elevs);
     PathEnd {
         link: Length(column::get(offsets, p.link_count - 1)),
-        grade: Length(grade.offset.0),
-        grade_net: Length(net.0),
-        curve_net: Length(curve.res_net.0),
+        grade: grade.offset,
+        grade_net: net,
+        curve_net: curve.res_net,
     }
 }
 
@@ -215,7 +215,7 @@ fn extend_answer(
     if named.number != 0 {
         return named;
     }
-    let own = Length(train.length.0);
+    let own = train.length;
     sums_answer(
         p,
         own,
@@ -278,7 +278,7 @@ fn joined(
         (table_of links.now lengths.now sets.now elevs.now headings.now limits.now codes.now values.now link_powers.now link_districts.now)
         (path_of p (columns offsets.old numbers.old grades.old curves.old speeds.old powers.old districts.old)) list.now) list.now)) }
 {
-    let begin = Length(coeff_at(&*grades, p.grade_count - 1).offset.0);
+    let begin = coeff_at(&*grades, p.grade_count - 1).offset;
     join_points(
         &mut *offsets,
         &mut *numbers,
@@ -287,7 +287,7 @@ fn joined(
         links,
         lengths,
     );
-    let own = Length(train.length.0);
+    let own = train.length;
     let speed_count = lay_links(
         &mut *speeds,
         p.speed_count,

@@ -19,7 +19,7 @@ use lookup::path_res_coeff::{PathResCoeff, coeff_at, put_coeff};
 use path_stretches::powers::lay_powers;
 use path_stretches::stretch::Lines;
 use path_stretches::walk::{lay_stretches, stretch_count};
-use si::{Length, Ratio};
+use si::Length;
 
 // Where the grades of link i end that begin at base.
 fn grade_end(links: &[u32], lengths: &[f64], elevs: &[f64], base: Length, i: usize) -> Length
@@ -54,7 +54,7 @@ pub fn starting_net(m: usize, net: Length, list: &[u32], links: &[u32], elevs: &
     if l.elevs_count == 0 {
         return net;
     }
-    Length(elev_at(elevs, l.elevs_first as usize).elev.0)
+    elev_at(elevs, l.elevs_first as usize).elev
 }
 
 // The last of m grades gets that net value.
@@ -66,14 +66,13 @@ pub fn start_net(grades: &mut [f64], m: usize, list: &[u32], links: &[u32], elev
         (flat triple (spec.start_net links.now elevs.now (coeffs m grades.old) list.now)) }
 {
     let g = coeff_at(&*grades, m - 1);
-    let net = starting_net(m, Length(g.res_net.0), list, links, elevs);
+    let net = starting_net(m, g.res_net, list, links, elevs);
     put_coeff(
         &mut *grades,
         m - 1,
         PathResCoeff {
-            offset: Length(g.offset.0),
-            res_coeff: Ratio(g.res_coeff.0),
-            res_net: Length(net.0),
+            res_net: net,
+            ..g
         },
     );
 }

@@ -10,7 +10,7 @@ ghost use Rattle.path_speeds.specs.Limits as spec;
 use crate::limits::{applying_set, lay_limits, limits_count, limits_finite};
 use link::train_params::TrainParams;
 use path::link_point::link_point_at;
-use si::{Length, Velocity};
+use si::Length;
 
 // Question 8 of the limits of link i, where it begins at base.
 pub fn link_finite(
@@ -30,7 +30,7 @@ pub fn link_finite(
     let Some(s) = applying_set(sets, codes, values, i, train) else {
         return true;
     };
-    limits_finite(limits, s, base, length, Velocity(train.speed_max.0))
+    limits_finite(limits, s, base, length, train.speed_max)
 }
 
 // How many limits link i lays.
@@ -49,7 +49,7 @@ pub fn link_limit_count(
     let Some(s) = applying_set(sets, codes, values, i, train) else {
         return 0;
     };
-    limits_count(limits, s, Velocity(train.speed_max.0))
+    limits_count(limits, s, train.speed_max)
 }
 
 // Lays the limits of link i, where it begins at base, on the n points of a column.
@@ -76,7 +76,7 @@ pub fn add_speeds(
     let Some(s) = applying_set(sets, codes, values, i, train) else {
         return n;
     };
-    lay_limits(col, n, limits, s, base, length, Velocity(train.speed_max.0))
+    lay_limits(col, n, limits, s, base, length, train.speed_max)
 }
 
 // Question 8 of the limits of the first `count` link points: the first that fails.
@@ -101,7 +101,7 @@ pub fn points_finite(
     for k in 0..count {
         let p = link_point_at(offsets, numbers, k);
         let i = p.link_idx as usize;
-        let base = Length(p.offset.0);
+        let base = p.offset;
         if !link_finite(sets, codes, values, limits, i, base, length, train) {
             return Some(k);
         }
@@ -167,7 +167,7 @@ pub fn lay_links(
     for k in first..first + count {
         let p = link_point_at(offsets, numbers, k);
         let i = p.link_idx as usize;
-        let base = Length(p.offset.0);
+        let base = p.offset;
         m = add_speeds(
             &mut *col, m, sets, codes, values, limits, i, base, length, train,
         );

@@ -53,7 +53,7 @@ pub fn placed(l: SpeedLimit, base: Length, tail: Length) -> SpeedLimit
     SpeedLimit {
         offset_start: Length(l.offset_start.0 + base.0),
         offset_end: Length(l.offset_end.0 + base.0 + tail.0),
-        speed: Velocity(l.speed.0),
+        speed: l.speed,
     }
 }
 

@@ -117,7 +117,7 @@ fn recalc_answer(
     if present.number != 0 {
         return present;
     }
-    let own = Length(train.length.0);
+    let own = train.length;
     limits_answer(
         offsets, numbers, speeds, count, sets, codes, values, limits, own, train,
     )
@@ -228,7 +228,7 @@ pub fn recalc_speeds(
         &mut *districts,
     );
     let count = p.link_count - 1;
-    let own = Length(train.length.0);
+    let own = train.length;
     let n = lay_anew(
         &mut *speeds,
         &*offsets,
@@ -244,12 +244,8 @@ pub fn recalc_speeds(
     PathAnswer {
         answer,
         path: PathTpc {
-            link_count: p.link_count,
-            grade_count: p.grade_count,
-            curve_count: p.curve_count,
             speed_count: n,
-            power_count: p.power_count,
-            is_finished: p.is_finished,
+            ..p
         },
     }
 }

@@ -8,7 +8,7 @@ ghost use Rattle.path_stretches.specs.Powers as spec;
 
 use column::Three;
 use link::cat_power::{CatPowerLimit, power_limit_at};
-use si::{Length, Power};
+use si::Length;
 
 // A power limit where its link begins at base.
 fn placed_power(base: Length, l: CatPowerLimit) -> CatPowerLimit
@@ -17,8 +17,7 @@ fn placed_power(base: Length, l: CatPowerLimit) -> CatPowerLimit
     CatPowerLimit {
         offset_start: Length(base.0 + l.offset_start.0),
         offset_end: Length(base.0 + l.offset_end.0),
-        power_limit: Power(l.power_limit.0),
-        district_id: l.district_id,
+        ..l
     }
 }
 

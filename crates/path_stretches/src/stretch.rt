@@ -117,9 +117,9 @@ pub fn curve_stretch(
     let run = current.offset.0 - prior.offset.0;
     let turn = current.heading.0 - prior.heading.0;
     let work = curve_work(
-        Ratio(train.curve_coeff_0.0),
-        Ratio(train.curve_coeff_1.0),
-        Ratio(train.curve_coeff_2.0),
+        train.curve_coeff_0,
+        train.curve_coeff_1,
+        train.curve_coeff_2,
         curvature_of(turn, run),
     );
     let coefficient = work.0 / 1.0;
