@@ -1,5 +1,5 @@
 -- A run of the original in a column: the points that are in it, each limit laid, the drop, and the speed at an offset, point by point.
-use Prim.Native.Nat.{ℕ, suc, ◌+◌, ◌-◌, ◌*◌, ◌≤◌, ◌<◌}
+use Prim.Native.Nat.{ℕ, ◌+◌, ◌-◌, ◌*◌, ◌≤◌, ◌<◌}
 use native.Mathlib.Omega.{arith}
 use native.Mathlib.Numerals.{add-one}
 use borrow.Author.Tests.{lt-ltb, le-leb, lt-leb}
@@ -13,7 +13,8 @@ use lib.Ieee as Ieee
 use lib.Ieee.{Float}
 use Rattle.ieee.specs.Number.{+0}
 use Rattle.column.specs.Entries.{zero_from, move_front}
-use Rattle.column.specs.Records.{records, record_at, put_record, three, two}
+use Rattle.column.specs.Records.{records, put_record, two}
+use Rattle.speed.specs.declared.laid.Laid.{Laid}
 use Rattle.speed.specs.Points.{Point, point, nowhere, offset_at, speed_at, set_offset}
 use Rattle.speed.specs.Column.{points, Holds, Leaves}
 use Rattle.speed.specs.Insert.{first_from}
@@ -81,40 +82,36 @@ module _ (room : ℕ) (ps : List Point) (s e v : Float) where
   unfolding follow
   follow_one h l = rw (lt-ltb 0 (length ps) h, le-leb (2 * (length ps + 2)) room l)
 
-module _ (room : ℕ) (boards tags : List Float) (k to : ℕ) (ps : List Point) where
-  pub follow-next : k < to
-      → follow_all room boards tags k (to - k) ps
-      ≡ follow_all room boards tags (k + 1) (to - (k + 1)) (follow room ps (record_at three boards k).0 (record_at three boards k).2 (record_at two tags k).0)
+module _ (room : ℕ) (ls : List Laid) (ps : List Point) where
+  follow-next : (l : Laid) (rest : List Laid) → ls ≡ l ∷ rest → follow_all room ls ps ≡ follow_all room rest (follow room ps l.start l.end l.value)
   unfolding follow_all
-  follow-next h =
-      let q : to - k ≡ suc (to - (k + 1)) = omega arith in
-      ap (λ (j : ℕ). follow_all room boards tags k j ps) q ∙ rw (add-one k)
+  follow-next l rest e = ap (λ (ks : List Laid). follow_all room ks ps) e
 
-  pub follow-end : to ≤ k → follow_all room boards tags k (to - k) ps ≡ ps
+  follow-end : ls ≡ [] → follow_all room ls ps ≡ ps
   unfolding follow_all
-  follow-end h = let q : to - k ≡ 0 = omega arith in rw q
+  follow-end e = ap (λ (ks : List Laid). follow_all room ks ps) e
 
--- Laying in a loop: the column c, as long as c₀, holds m points, and with the limits from record k up to `to` they become `goal`.
-pub record Laying (boards tags : List Float) (to : ℕ) (c₀ : List Float) (goal : List Point) (c : List Float) (m k : ℕ) : Type 0 where
+-- Laying in a loop: the column c, as long as c₀, holds m points, and with the limits `ls` that are left they become `goal`.
+pub record Laying (c₀ : List Float) (goal : List Point) (ls : List Laid) (c : List Float) (m : ℕ) : Type 0 where
   pub same : length c ≡ length c₀
   pub held : Holds c (points m c)
-  pub is : follow_all (length c₀) boards tags k (to - k) (points m c) ≡ goal
+  pub is : follow_all (length c₀) ls (points m c) ≡ goal
 
-module _ (boards tags : List Float) (to : ℕ) (c₀ : List Float) (goal : List Point) (c : List Float) (m k : ℕ) (g : Laying boards tags to c₀ goal c m k) where
-  pub laying-next : {d : List Float} {r : ℕ} → k < to
-      → Leaves d r (follow (length c) (points m c) (record_at three boards k).0 (record_at three boards k).2 (record_at two tags k).0)
+module _ (c₀ : List Float) (goal : List Point) (ls : List Laid) (c : List Float) (m : ℕ) (g : Laying c₀ goal ls c m) where
+  pub laying-next : (l : Laid) (rest : List Laid) {d : List Float} {r : ℕ} → ls ≡ l ∷ rest
+      → Leaves d r (follow (length c) (points m c) l.start l.end l.value)
       → length d ≡ length c
-      → Laying boards tags to c₀ goal d r (k + 1)
-  laying-next {d} {r} h l kept =
-      let laid : ℕ → List Point = λ room. follow room (points m c) (record_at three boards k).0 (record_at three boards k).2 (record_at two tags k).0 in
+      → Laying c₀ goal rest d r
+  laying-next l rest {d} {r} e left kept =
+      let laid : ℕ → List Point = λ room. follow room (points m c) l.start l.end l.value in
       record {
         same = kept ∙ g.same;
-        held = holds-again d (laid (length c)) r l.holds l.count;
-        is = ap (follow_all (length c₀) boards tags (k + 1) (to - (k + 1))) (holds-points d (laid (length c)) r l.holds l.count ∙ ap laid g.same) ∙ sym (follow-next (length c₀) boards tags k to (points m c) h) ∙ g.is;
+        held = holds-again d (laid (length c)) r left.holds left.count;
+        is = ap (follow_all (length c₀) rest) (holds-points d (laid (length c)) r left.holds left.count ∙ ap laid g.same) ∙ sym (follow-next (length c₀) ls (points m c) l rest e) ∙ g.is;
       }
 
-  pub laying-end : to ≤ k → Leaves c m goal
-  laying-end h = leaves_at c m (points m c) goal (record { count = sym (length-points m c); holds = g.held }) (sym (follow-end (length c₀) boards tags k to (points m c) h) ∙ g.is)
+  pub laying-end : ls ≡ [] → Leaves c m goal
+  laying-end e = leaves_at c m (points m c) goal (record { count = sym (length-points m c); holds = g.held }) (sym (follow-end (length c₀) ls (points m c) e) ∙ g.is)
 
 -- ---- the drop: k is the first of m points at or past x, and d the column c with the points from there on at its front
 

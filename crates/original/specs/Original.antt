@@ -1,9 +1,9 @@
 -- The speed points that the original Rust would have: its rules where the port has others (R174, R188), and its run followed in a column. Definitions only.
-use Rattle.std.specs.Prelude.{ℕ, zero, suc, ◌+◌, ◌-◌, ◌*◌, Bool, not, ◌&&◌, cond, List, [], ltb, leb, length, drop, Float}
+use Rattle.std.specs.Prelude.{ℕ, suc, ◌+◌, ◌-◌, ◌*◌, Bool, not, ◌&&◌, cond, List, [], ◌∷◌, ltb, leb, length, drop, Float}
 use Rattle.std.specs.Float.Ieee as Ieee
 use Rattle.ieee.specs.Speed.{min_speed}
 use Rattle.column.specs.Entries.{insert_at}
-use Rattle.column.specs.Records.{record_at, three, two}
+use Rattle.speed.specs.declared.laid.Laid.{Laid}
 use Rattle.speed.specs.Points.{Point, point, offset_at, speed_at}
 use Rattle.speed.specs.Column.{points}
 use Rattle.speed.specs.Insert.{first_from, drop_repeat, between, insert_speed}
@@ -44,9 +44,8 @@ unfoldable pub follow : ℕ → List Point → Float → Float → Float → Lis
 unfolding insert_original
 follow room ps s e v = cond (ltb 0 (length ps) && leb (2 * (length ps + 2)) room) (insert_original ps s e v) []
 
--- k limits from record i on: a record has a start, an end, the end with the tail; a speed and a number
-unfoldable pub follow_all : ℕ → List Float → List Float → ℕ → ℕ → List Point → List Point
+-- limits in turn, each from its start to its end with the tail
+unfoldable pub follow_all : ℕ → List Laid → List Point → List Point
 unfolding follow
-follow_all room boards tags i zero ps = ps
-follow_all room boards tags i (suc k) ps =
-    follow_all room boards tags (suc i) k (follow room ps (record_at three boards i).0 (record_at three boards i).2 (record_at two tags i).0)
+follow_all room [] ps = ps
+follow_all room (l ∷ ls) ps = follow_all room ls (follow room ps l.start l.end l.value)

@@ -1,8 +1,7 @@
 // A run of the original, followed in a column of its speed points; a count of 0 says that it is not followed, or has stopped.
-ghost use Rattle.std.specs.Prelude.{◌≡◌, cond, [], ◌∷◌, ◌-◌, leb, length};
+ghost use Rattle.std.specs.Prelude.{◌≡◌, cond, [], ◌∷◌, leb, length};
 ghost use Rattle.ieee.specs.Number.{+0};
 ghost use Rattle.speed.specs.Points.{point};
-ghost use Rattle.column.specs.Records.{record_at, three, two};
 ghost use Rattle.speed.specs.Column.{points, Holds, Leaves};
 ghost use Rattle.speed.specs.Posted.{posted};
 ghost use Rattle.original.specs.Original as spec;
@@ -10,6 +9,7 @@ ghost use Rattle.original.specs.Original as spec;
 use crate::insert::insert_as_original;
 use column::Two;
 use si::{Length, Velocity};
+use speed::laid::Laid;
 use speed::speed_limit::SpeedLimit;
 use speed::speed_point::{first_from, offset_at, set_offset, speed_at};
 
@@ -37,11 +37,10 @@ fn points_in(col: &mut [f64], n: usize) -> usize
     n
 }
 
-// Lays the limit of record k on the m points.
-fn follow(col: &mut [f64], m: usize, boards: &[f64], tags: &[f64], k: usize) -> usize
+// Lays a limit on the m points.
+fn follow(col: &mut [f64], m: usize, l: Laid) -> usize
     requires { Holds col.old (points m col.old) }
-    ensures { Leaves col.new result (spec.follow (length col.old) (points m col.old)
-        (record_at three boards.now k).0 (record_at three boards.now k).2 (record_at two tags.now k).0) }
+    ensures { Leaves col.new result (spec.follow (length col.old) (points m col.old) l.start l.end l.value) }
 {
     if m == 0 {
         return 0;
@@ -50,27 +49,21 @@ fn follow(col: &mut [f64], m: usize, boards: &[f64], tags: &[f64], k: usize) -> 
         column::zero_from(&mut *col, 0);
         return 0;
     }
-    let b = column::record_at::<column::Three>(boards, k);
-    let t = column::record_at::<column::Two>(tags, k);
-    insert_as_original(
-        col,
-        m,
-        SpeedLimit {
-            offset_start: Length(b.0),
-            offset_end: Length(b.2),
-            speed: Velocity(t.0),
-        },
-    )
+    let limit = SpeedLimit {
+        offset_start: Length(l.start),
+        offset_end: Length(l.end),
+        speed: Velocity(l.value),
+    };
+    insert_as_original(col, m, limit)
 }
 
-// Lays the limits of records from..to on the n points.
-pub fn lay(col: &mut [f64], n: usize, boards: &[f64], tags: &[f64], from: usize, to: usize) -> usize
-    ensures { Leaves col.new result
-        (spec.follow_all (length col.old) boards.now tags.now from (to - from) (spec.points_in n col.old)) }
+// Lays the limits in turn on the n points.
+pub fn lay(col: &mut [f64], n: usize, limits: &[Laid]) -> usize
+    ensures { Leaves col.new result (spec.follow_all (length col.old) limits.now (spec.points_in n col.old)) }
 {
     let mut m = points_in(&mut *col, n);
-    for k in from..to {
-        m = follow(&mut *col, m, boards, tags, k);
+    for l in limits {
+        m = follow(&mut *col, m, *l);
     }
     m
 }

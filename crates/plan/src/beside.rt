@@ -1,9 +1,10 @@
 // What the original Rust posts behind a drop, beside what is posted here: its own run of the same calls is followed in a column of its speed points.
-use crate::columns::{Boards, Original, Tags};
+use crate::columns::Original;
 use original::run::{begin, drop_before, lay, posted_by_original};
 use route::kinds::{CLEAR, EXTEND, NEW, RECALCULATE};
-use show::{put, put_real};
+use show::{put, put_count, put_real};
 use si::{Length, Velocity};
+use speed::laid::Laid;
 use view::holders::lowest_below;
 
 // Its run: how many speed points it has, and whether it goes on, stopped at a drop, or is not followed for want of room.
@@ -39,20 +40,17 @@ fn with_points(points: usize, state: u32) -> Course {
     Course { points, state }
 }
 
-// Behind a call that is done: x is the path's beginning, from..to are the limits that it laid, `links` says whether links were dropped, `fits` whether all
+// Behind a call that is done: x is the path's beginning, `laid` are the limits that it laid, `links` says whether links were dropped, `fits` whether all
 // limits have a record.
 pub fn course_behind(
     kind: u32,
     c: Course,
     x: Length,
     top: Velocity,
-    from: usize,
-    to: usize,
+    laid: &[Laid],
     links: bool,
     fits: bool,
     points: &mut Original,
-    boards: &Boards,
-    tags: &Tags,
 ) -> Course {
     if kind == NEW {
         return with_points(begin(&mut *points, x, top), NOT_FOLLOWED);
@@ -80,32 +78,28 @@ pub fn course_behind(
     } else {
         c.points
     };
-    with_points(lay(&mut *points, n, boards, tags, from, to), NOT_FOLLOWED)
+    with_points(lay(&mut *points, n, laid), NOT_FOLLOWED)
 }
 
 // The limit that the original loses at x, where it posts v: a limit that covers x and is smaller.
-fn lost(out: i32, x: Length, v: f64, boards: &Boards, tags: &Tags, n: usize) {
-    let i = lowest_below(boards, tags, n, x.0, v);
-    if i < n {
-        let t = column::record_at::<column::Two>(tags, i);
+fn lost(out: i32, x: Length, v: f64, limits: &[Laid]) {
+    if let Some(l) = lowest_below(limits, x.0, v) {
         put(out, b": it loses a limit, ");
-        put_real(out, t.0);
+        put_real(out, l.value);
         put(out, b" of link ");
-        put_real(out, t.1);
+        put_count(out, l.link as usize);
     }
     put(out, b"\n");
 }
 
-// Both at the path's new beginning x, where `here` is posted; n limits were laid.
+// Both at the path's new beginning x, where `here` is posted, with the limits that were laid.
 pub fn side_by_side(
     out: i32,
     x: Length,
     here: Velocity,
     c: Course,
     points: &Original,
-    boards: &Boards,
-    tags: &Tags,
-    n: usize,
+    limits: &[Laid],
 ) {
     put(out, b"  here:          ");
     put_real(out, here.0);
@@ -117,7 +111,7 @@ pub fn side_by_side(
         put_real(out, v);
         put(out, b" posted at ");
         put_real(out, x.0);
-        lost(out, x, v, boards, tags, n);
+        lost(out, x, v, limits);
     } else if c.state == STOPPED {
         put(out, b"stops here, no speed point is at or past ");
         put_real(out, x.0);

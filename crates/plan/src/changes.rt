@@ -1,5 +1,5 @@
 // The calls that may change the path, as lines of a route.
-use crate::columns::{Curves, Districts, Grades, Numbers, Offsets, Powers, Speeds, cut_numbers};
+use crate::columns::{Curves, Districts, Grades, Numbers, Offsets, Powers, Speeds, cut};
 use link::train_params::TrainParams;
 use path::path_tpc::{Answer, PathAnswer, PathTpc};
 use route::fill::fill_list;
@@ -34,7 +34,7 @@ pub fn list_of(text: &[u8], at: usize, list: &mut List) -> usize {
 }
 
 pub fn cut_list(list: &List, n: usize) -> &[u32] {
-    cut_numbers(list, n)
+    cut(list, n)
 }
 
 fn clear(

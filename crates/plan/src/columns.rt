@@ -6,6 +6,8 @@ use crate::session::{Counts, run};
 use route::fill::fill_table;
 use route::judge::Seen;
 use show::To;
+use speed::laid::Laid;
+use view::profile::{Border, Height};
 
 // The columns of a path at the bounds of R12.
 pub type Offsets = [f64; 1025];
@@ -23,30 +25,23 @@ pub type Powers = [f64; 3072];
 pub type Districts = [u32; 1024];
 
 // The columns of what was joined.
-pub type Boards = [f64; 98304];
+pub type Limits = [Laid; 32768];
 
-pub type Tags = [f64; 65536];
+pub type Borders = [Border; 2048];
 
-pub type Borders = [f64; 4096];
-
-pub type Heights = [f64; 65536];
+pub type Heights = [Height; 32768];
 
 // The speed points of the original in its own run.
 pub type Original = [f64; 16384];
 
 // The first n entries of a column, all where it has fewer.
-pub fn cut_numbers(col: &[u32], n: usize) -> &[u32] {
-    if n <= col.len() {
-        return &col[..n];
-    }
-    col
+pub fn cut<T>(col: &[T], n: usize) -> &[T] {
+    col.get(..n).unwrap_or(col)
 }
 
-fn cut_floats(col: &[f64], n: usize) -> &[f64] {
-    if n <= col.len() {
-        return &col[..n];
-    }
-    col
+// Entries from..to of a column; none where it has fewer.
+pub fn part<T>(col: &[T], from: usize, to: usize) -> &[T] {
+    col.get(from..to).unwrap_or(&[])
 }
 
 // The number of the last link of a route, which a table has room for.
@@ -85,10 +80,9 @@ fn with_path<R: std::rt::Clock>(
     let mut speeds = [0.0f64; 8192];
     let mut powers = [0.0f64; 3072];
     let mut districts = [0u32; 1024];
-    let mut boards = [0.0f64; 98304];
-    let mut tags = [0.0f64; 65536];
-    let mut borders = [0.0f64; 4096];
-    let mut heights = [0.0f64; 65536];
+    let mut laid = [Laid::default(); 32768];
+    let mut borders = [Border::default(); 2048];
+    let mut heights = [Height::default(); 32768];
     let mut original = [0.0f64; 16384];
     run(
         sys,
@@ -114,8 +108,7 @@ fn with_path<R: std::rt::Clock>(
         values,
         link_powers,
         link_districts,
-        &mut boards,
-        &mut tags,
+        &mut laid,
         &mut borders,
         &mut heights,
         &mut original,
@@ -162,9 +155,9 @@ fn with_links<R: std::rt::Clock>(
         name,
         text,
         seen,
-        cut_numbers(&*links, 11 * n + 11),
-        cut_floats(&*lengths, n + 1),
-        cut_numbers(&*sets, 48 * n + 48),
+        cut(&*links, 11 * n + 11),
+        cut(&*lengths, n + 1),
+        cut(&*sets, 48 * n + 48),
         &*elevs,
         &*headings,
         &*limits,

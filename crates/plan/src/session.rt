@@ -2,8 +2,8 @@
 use crate::beside::{Course, course_behind, no_course, side_by_side};
 use crate::changes::{Step, change, cut_list, list_of};
 use crate::columns::{
-    Boards, Borders, Curves, Districts, Grades, Heights, Numbers, Offsets, Original, Powers,
-    Speeds, Tags,
+    Borders, Curves, Districts, Grades, Heights, Limits, Numbers, Offsets, Original, Powers, Speeds,
+    cut, part,
 };
 use crate::progress::{Clock, cleared, progress};
 use link::train_params::TrainParams;
@@ -24,7 +24,7 @@ use si::{Length, Velocity};
 use view::history::{History, add_links, nothing_joined};
 use view::picture::picture;
 use view::profile::{add_borders, add_heights};
-use view::stretches::table;
+use view::stretches::{Posted, table};
 
 // The path, what was joined, the straps, the run of the original, and the line that is run; calls done and refused so far.
 #[derive(Clone, Copy)]
@@ -123,22 +123,22 @@ fn drops(kind: u32, before: PathTpc, p: PathTpc) -> bool {
 
 // The links whose limits a call that is done laid anew: those joined by an extension, or all; from one link point to another.
 #[derive(Clone, Copy)]
-struct Laid {
+struct Anew {
     from: usize,
     to: usize,
     held: usize,
 }
 
-fn laid_by(kind: u32, h: History, before: PathTpc, p: PathTpc) -> Laid {
+fn laid_by(kind: u32, h: History, before: PathTpc, p: PathTpc) -> Anew {
     let to = last_of(p.link_count);
     if kind == EXTEND {
-        return Laid {
+        return Anew {
             from: last_of(before.link_count),
             to,
             held: h.limits,
         };
     }
-    Laid {
+    Anew {
         from: 0,
         to,
         held: 0,
@@ -192,8 +192,7 @@ fn joined(
     limits: &[f64],
     codes: &[u32],
     values: &[f64],
-    boards: &mut Boards,
-    tags: &mut Tags,
+    laid: &mut Limits,
     borders: &mut Borders,
     heights: &mut Heights,
 ) -> History {
@@ -210,20 +209,19 @@ fn joined(
     if (kind != EXTEND) & (kind != RECALCULATE) {
         return h;
     }
-    let laid = laid_by(kind, h, before, p);
+    let anew = laid_by(kind, h, before, p);
     let n = add_links(
         offsets,
         numbers,
-        laid.from,
-        laid.to,
+        anew.from,
+        anew.to,
         sets,
         codes,
         values,
         limits,
         train,
-        &mut *boards,
-        &mut *tags,
-        laid.held,
+        &mut *laid,
+        anew.held,
     );
     if kind == RECALCULATE {
         return History {
@@ -379,8 +377,7 @@ fn compared(
     speeds: &Speeds,
     powers: &Powers,
     districts: &Districts,
-    boards: &Boards,
-    tags: &Tags,
+    laid: &Limits,
     original: &Original,
 ) {
     let p = s.path;
@@ -407,9 +404,7 @@ fn compared(
         Velocity(r.speed.0),
         course,
         original,
-        boards,
-        tags,
-        h.limits,
+        cut(laid, h.limits),
     );
 }
 
@@ -426,9 +421,9 @@ fn recalculated(to: To, name: &[u8], kind: u32, s: Session, step: Step) {
 }
 
 // More limits than there are records for: said when the last record is taken.
-fn overfull(to: To, name: &[u8], s: Session, h: History, boards: &Boards) {
+fn overfull(to: To, name: &[u8], s: Session, h: History, laid: &Limits) {
     let before = s.history;
-    if (before.limits < boards.len() / 3) & (boards.len() / 3 <= h.limits) {
+    if (before.limits < laid.len()) & (laid.len() <= h.limits) {
         warning(to.err, name, s.line);
         put(
             to.err,
@@ -445,8 +440,7 @@ fn followed(
     h: History,
     train: TrainParams,
     offsets: &Offsets,
-    boards: &Boards,
-    tags: &Tags,
+    laid: &Limits,
     original: &mut Original,
 ) -> Course {
     let answer = step.answer;
@@ -463,13 +457,10 @@ fn followed(
         course,
         Length(column::get(offsets, 0)),
         Velocity(train.speed_max.0),
-        from,
-        h.limits,
+        part(laid, from, h.limits),
         drops(kind, old, p),
-        h.limits < boards.len() / 3,
+        h.limits < laid.len(),
         &mut *original,
-        boards,
-        tags,
     )
 }
 
@@ -499,8 +490,7 @@ fn changed(
     values: &[f64],
     link_powers: &[f64],
     link_districts: &[u32],
-    boards: &mut Boards,
-    tags: &mut Tags,
+    laid: &mut Limits,
     borders: &mut Borders,
     heights: &mut Heights,
     original: &mut Original,
@@ -544,8 +534,7 @@ fn changed(
         limits,
         codes,
         values,
-        &mut *boards,
-        &mut *tags,
+        &mut *laid,
         &mut *borders,
         &mut *heights,
     );
@@ -556,12 +545,11 @@ fn changed(
         h,
         train,
         &*offsets,
-        &*boards,
-        &*tags,
+        &*laid,
         &mut *original,
     );
     recalculated(to, name, kind, s, step);
-    overfull(to, name, s, h, &*boards);
+    overfull(to, name, s, h, &*laid);
     let before = s.path;
     let after = behind(kind, s, step, h, course);
     compared(
@@ -576,25 +564,21 @@ fn changed(
         &*speeds,
         &*powers,
         &*districts,
-        &*boards,
-        &*tags,
+        &*laid,
         &*original,
     );
     after
 }
 
 // The table of stretches.
-fn show_table(s: Session, train: TrainParams, speeds: &Speeds, boards: &Boards, tags: &Tags) {
+fn show_table(s: Session, train: TrainParams, speeds: &Speeds, laid: &Limits) {
     let p = s.path;
     let h = s.history;
-    table(
-        speeds,
-        p.speed_count,
-        boards,
-        tags,
-        h.limits,
-        Velocity(train.speed_max.0),
-    );
+    let posted = Posted {
+        column: speeds,
+        count: p.speed_count,
+    };
+    table(posted, cut(laid, h.limits), Velocity(train.speed_max.0));
 }
 
 // A line whose call reads the path; behind a picture nothing of it is shown but a refusal.
@@ -613,8 +597,7 @@ fn looked(
     speeds: &Speeds,
     powers: &Powers,
     districts: &Districts,
-    boards: &Boards,
-    tags: &Tags,
+    laid: &Limits,
 ) -> Session {
     let p = s.path;
     let line = s.line;
@@ -622,7 +605,7 @@ fn looked(
     if kind == SHOW {
         put(to.out, b"\n");
         if 0 <= to.out {
-            show_table(s, train, speeds, boards, tags);
+            show_table(s, train, speeds, laid);
         }
         return counted(s, true);
     }
@@ -679,8 +662,7 @@ fn turn(
     values: &[f64],
     link_powers: &[f64],
     link_districts: &[u32],
-    boards: &mut Boards,
-    tags: &mut Tags,
+    laid: &mut Limits,
     borders: &mut Borders,
     heights: &mut Heights,
     original: &mut Original,
@@ -706,8 +688,7 @@ fn turn(
             &*speeds,
             &*powers,
             &*districts,
-            &*boards,
-            &*tags,
+            &*laid,
         );
     }
     changed(
@@ -735,8 +716,7 @@ fn turn(
         values,
         link_powers,
         link_districts,
-        &mut *boards,
-        &mut *tags,
+        &mut *laid,
         &mut *borders,
         &mut *heights,
         &mut *original,
@@ -760,32 +740,30 @@ fn result(
     s: Session,
     offsets: &Offsets,
     speeds: &Speeds,
-    boards: &Boards,
-    tags: &Tags,
+    laid: &Limits,
     borders: &Borders,
     heights: &Heights,
 ) {
     let p = s.path;
     let h = s.history;
     if 0 <= to.out {
-        show_table(s, train, speeds, boards, tags);
+        show_table(s, train, speeds, laid);
         calls_told(to.out, s);
         return;
     }
+    let posted = Posted {
+        column: speeds,
+        count: p.speed_count,
+    };
     picture(
         name,
         train,
         column::get(offsets, 0),
         column::get(offsets, last_of(p.link_count)),
-        speeds,
-        p.speed_count,
-        boards,
-        tags,
-        h.limits,
-        borders,
-        h.borders,
-        heights,
-        h.heights,
+        posted,
+        cut(laid, h.limits),
+        cut(borders, h.borders),
+        cut(heights, h.heights),
     );
     put(to.err, b"plan: ");
     put(to.err, name);
@@ -818,8 +796,7 @@ pub fn run<R: std::rt::Clock>(
     values: &[f64],
     link_powers: &[f64],
     link_districts: &[u32],
-    boards: &mut Boards,
-    tags: &mut Tags,
+    laid: &mut Limits,
     borders: &mut Borders,
     heights: &mut Heights,
     original: &mut Original,
@@ -853,8 +830,7 @@ pub fn run<R: std::rt::Clock>(
             values,
             link_powers,
             link_districts,
-            &mut *boards,
-            &mut *tags,
+            &mut *laid,
             &mut *borders,
             &mut *heights,
             &mut *original,
@@ -864,7 +840,7 @@ pub fn run<R: std::rt::Clock>(
     }
     cleared(c, to.err);
     result(
-        to, name, train, s, &*offsets, &*speeds, &*boards, &*tags, &*borders, &*heights,
+        to, name, train, s, &*offsets, &*speeds, &*laid, &*borders, &*heights,
     );
     Counts {
         done: s.done,

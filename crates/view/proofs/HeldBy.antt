@@ -1,45 +1,63 @@
 -- What `held_by` names does hold: the limit covers every offset of the row, its tail counted in, with the size posted; the top speed has that size.
 -- Neither is named only where no limit holds and the top speed is not posted.
-use Rattle.std.proofs.Common.{◌≡◌, ℕ, ◌<◌, ◌≤◌, Bool, true, false, cond, not, T, ltb, ◌⊎◌, List, refl, subst, inl, inr, arith, T_not, ltb-false, ltb-true}
+use Rattle.std.proofs.Common.{◌≡◌, Bool, true, false, cond, not, T, ◌⊎◌, List, [], ◌∷◌, refl, subst, inl, inr, T_not}
+use Rattle.std.specs.Prelude.{Option, Some, None, find}
+use mathlib.Core.List.{Memᴰ}
+use mathlib.Core.List.Memᴰ
 use lib.Ieee.{Float, le, lt, eq}
 use lib.Ieee.Fits.{and_i, and_l, and_r}
 use Rattle.ieee.specs.Number.{real, size}
 use Rattle.ieee.specs.Speed.{smaller}
-use Rattle.ieee.proofs.Order.{le_trans, lt-le-trans, lt-real-r}
+use Rattle.ieee.proofs.Order.{of-true, of-false, le_trans, lt-le-trans, lt-real-r}
 use Rattle.ieee.proofs.Sizes.{smaller-is, smaller-le-l, smaller-le-r}
-use Rattle.column.specs.Records.{record_at, three, two}
+use Rattle.speed.specs.declared.laid.Laid.{Laid}
 use Rattle.speed_laws.specs.Words.{covers}
 use Rattle.view.specs.declared.holders.Held.{Held}
-use Rattle.view.specs.declared.holders.Held.TheVariants.{Limit, Top, Unlisted}
-use Rattle.view.specs.Holders.{holds, first_from, held_as, held_by, part_end, piece_end}
-use Rattle.view.proofs.First.{first-is, first-within}
+use Rattle.view.specs.declared.holders.Held.TheVariants.{Limit, Top}
+use Rattle.view.specs.Holders.{holds, held_as, held_by, part_end, piece_end}
 
 -- ---- a limit holds v at x where it covers x with the size of v, and nowhere else
-module _ (boards tags : List Float) (x v : Float) (i : ℕ) where
-  pub holds_of : T (covers (record_at three boards i).0 (record_at three boards i).2 x) → T (eq (size (record_at two tags i).0) (size v)) → T (holds boards tags x v i)
+module _ (x v : Float) (l : Laid) where
+  pub holds_of : T (covers l.start l.end x) → T (eq (size l.value) (size v)) → T (holds x v l)
   unfolding holds
-  holds_of c e = and_i (covers (record_at three boards i).0 (record_at three boards i).2 x) (eq (size (record_at two tags i).0) (size v)) c e
+  holds_of c e = and_i (covers l.start l.end x) (eq (size l.value) (size v)) c e
 
-  pub holds-says : T (holds boards tags x v i) → T (covers (record_at three boards i).0 (record_at three boards i).2 x) × T (eq (size (record_at two tags i).0) (size v))
+  pub holds-says : T (holds x v l) → T (covers l.start l.end x) × T (eq (size l.value) (size v))
   unfolding holds
   holds-says h =
-      let c = covers (record_at three boards i).0 (record_at three boards i).2 x in
-      let q = eq (size (record_at two tags i).0) (size v) in
+      let c = covers l.start l.end x in
+      let q = eq (size l.value) (size v) in
       (and_l c q h, and_r c q h)
 
--- ---- what an answer says of the index j found and of the top speed
-abbrev Said : ℕ → ℕ → Bool → Held → Type 0
-Said n j at_top (Limit i) = (j ≡ i) × (j < n)
-Said n j at_top Top = T at_top
-Said n j at_top Unlisted = (n ≤ j) × T (not at_top)
+-- ---- the search
+module _ (p : Laid → Bool) where
+  -- what a search found is one of the limits, and is p; where it found none, none is p
+  abbrev Searched : List Laid → Option Laid → Type 0
+  Searched limits (Some l) = Memᴰ l limits × T (p l)
+  Searched limits None = (k : Laid) → Memᴰ k limits → T (p k) → ⊥
 
-said : (n j : ℕ) (at_top : Bool) → Said n j at_top (held_as n j at_top)
-said n j at_top = go (ltb j n) refl at_top
-  where
-    go : (b : Bool) → ltb j n ≡ b → (c : Bool) → Said n j c (cond b (Limit j) (cond c Top Unlisted))
-    go true e c = (refl, ltb-true j n e)
-    go false e true = tt
-    go false e false = (ltb-false j n e, tt)
+  searched : (limits : List Laid) → Searched limits (find p limits)
+  searched [] = λ k m. absurd (Memᴰ.not-nil m)
+  searched (l ∷ limits) = go (p l) refl (find p limits) (searched limits)
+    where
+      on : p l ≡ false → (r : Option Laid) → Searched limits r → Searched (l ∷ limits) r
+      on e (Some k) s = (Memᴰ.tail s.0, s.1)
+      on e None s = λ k m t. elim (Memᴰ.cases_cons m) [ inl q ↦ T_not (p l) (of-false e) (subst (λ (j : Laid). T (p j)) q t) | inr i ↦ s k i t ]
+
+      go : (b : Bool) → p l ≡ b → (r : Option Laid) → Searched limits r → Searched (l ∷ limits) (cond b (Some l) r)
+      go true e r s = (Memᴰ.head refl, of-true e)
+      go false e r s = on e r s
+
+-- ---- what an answer says of the limit found and of the top speed
+abbrev Said : Option Laid → Bool → Option Held → Type 0
+Said found at_top (Some (Limit l)) = found ≡ Some l
+Said found at_top (Some Top) = T at_top
+Said found at_top None = (found ≡ None) × T (not at_top)
+
+said : (found : Option Laid) (at_top : Bool) → Said found at_top (held_as found at_top)
+said (Some l) at_top = refl
+said None true = tt
+said None false = (refl, tt)
 
 -- ---- what is before the smaller of two is before each
 module _ (y s t : Float) (h : T (lt y (smaller s t))) where
@@ -63,43 +81,38 @@ within-tail b t x to y p = go (lt x b)
     go true h = before-r y (smaller b to) t h p
     go false h = before-l y t to h p
 
-module _ (boards tags : List Float) (n : ℕ) (x v top : Float) where
-  told : (h : Held) → held_by boards tags n x v top ≡ h → Said n (first_from (holds boards tags x v) 0 n) (eq (size v) (size top)) h
+module _ (limits : List Laid) (x v top : Float) where
+  told : (h : Option Held) → held_by limits x v top ≡ h → Said (find (holds x v) limits) (eq (size v) (size top)) h
   unfolding held_by
   told h e =
-      let j = first_from (holds boards tags x v) 0 n in
+      let found = find (holds x v) limits in
       let at_top = eq (size v) (size top) in
-      subst (Said n j at_top) e (said n j at_top)
+      subst (Said found at_top) e (said found at_top)
 
-  -- a limit that is named is one of the n, covers x, and has the size posted
-  pub held-limit : (i : ℕ) → held_by boards tags n x v top ≡ Limit i
-      → (i < n) × T (covers (record_at three boards i).0 (record_at three boards i).2 x) × T (eq (size (record_at two tags i).0) (size v))
-  held-limit i e =
-      let t = told (Limit i) e in
-      let here : T (holds boards tags x v i) = subst (λ (j : ℕ). T (holds boards tags x v j)) t.0 (first-is (holds boards tags x v) 0 n (omega arith)) in
-      let said = holds-says boards tags x v i here in
-      (subst (λ (j : ℕ). j < n) t.0 t.1, said.0, said.1)
+  -- a limit that is named is one of the limits, covers x, and has the size posted
+  pub held-limit : (l : Laid) → held_by limits x v top ≡ Some (Limit l) → Memᴰ l limits × T (covers l.start l.end x) × T (eq (size l.value) (size v))
+  held-limit l e =
+      let s : Searched (holds x v) limits (Some l) = subst (Searched (holds x v) limits) (told (Some (Limit l)) e) (searched (holds x v) limits) in
+      let said = holds-says x v l s.1 in
+      (s.0, said.0, said.1)
 
   -- the top speed is named only where it is posted
-  pub held-top : held_by boards tags n x v top ≡ Top → T (eq (size v) (size top))
-  held-top e = told Top e
+  pub held-top : held_by limits x v top ≡ Some Top → T (eq (size v) (size top))
+  held-top e = told (Some Top) e
 
   -- where a limit holds, or the top speed is posted, one of them is named
-  pub held-some : ((k : ℕ) × (k < n) × T (holds boards tags x v k)) ⊎ T (eq (size v) (size top)) → held_by boards tags n x v top ≡ Unlisted → ⊥
+  pub held-some : ((l : Laid) × Memᴰ l limits × T (holds x v l)) ⊎ T (eq (size v) (size top)) → held_by limits x v top ≡ None → ⊥
   held-some s e =
-      let t = told Unlisted e in
-      elim s [
-        | inl w ↦ let l = first-within (holds boards tags x v) 0 n w.0 (omega arith) (omega arith) w.2 in omega arith
-        | inr q ↦ T_not (eq (size v) (size top)) t.1 q
-      ]
+      let t = told None e in
+      let none : Searched (holds x v) limits None = subst (Searched (holds x v) limits) t.0 (searched (holds x v) limits) in
+      elim s [ inl w ↦ none w.0 w.1 w.2 | inr q ↦ T_not (eq (size v) (size top)) t.1 q ]
 
   -- the limit that is named covers every offset of the row
-  pub piece-covered : (i : ℕ) → held_by boards tags n x v top ≡ Limit i → (to y : Float) → T (le x y) → T (lt y (piece_end boards tags n x to v (Limit i)))
-      → T (covers (record_at three boards i).0 (record_at three boards i).2 y)
+  pub piece-covered : (l : Laid) → held_by limits x v top ≡ Some (Limit l) → (to y : Float) → T (le x y) → T (lt y (piece_end limits x to v (Some (Limit l))))
+      → T (covers l.start l.end y)
   unfolding piece_end
-  piece-covered i e to y h l =
-      let b = record_at three boards i in
-      let c = (held-limit i e).1 in
-      and_i (le b.0 y) (lt y b.2)
-      (le_trans b.0 x y (and_l (le b.0 x) (lt x b.2) c) h)
-      (within-tail b.1 b.2 x to y (lt-real-r x b.2 (and_r (le b.0 x) (lt x b.2) c)) l)
+  piece-covered l e to y h before =
+      let c = (held-limit l e).1 in
+      and_i (le l.start y) (lt y l.end)
+      (le_trans l.start x y (and_l (le l.start x) (lt x l.end) c) h)
+      (within-tail l.board l.end x to y (lt-real-r x l.end (and_r (le l.start x) (lt x l.end) c)) before)

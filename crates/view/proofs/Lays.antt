@@ -14,7 +14,8 @@ use Rattle.path.specs.Records.{offset_of, number_of, point_at}
 use Rattle.path_speeds.specs.Limits.{SpeedSets, few_conditions, few_at, applying_set, set_of, tail_of, placed, lowers, cons_if, lowering, entering, laying, laying_at}
 use Rattle.path_speeds.proofs.Applying.{none-applies, few-at, laying-by}
 use Rattle.path_speeds.proofs.Lowered.{limits_end, lower-next, lower_skip, lower-end}
-use Rattle.view.specs.History.{Laid, limit_in, laid_of, set_lays, set_taken, point_lays, points_lay, lay_from_to}
+use Rattle.speed.specs.declared.laid.Laid.{Laid}
+use Rattle.view.specs.History.{limit_in, laid_of, set_lays, set_taken, point_lays, points_lay, lay_from_to}
 
 -- ---- the set
 module _ (train : TrainParams) (sets codes : List ℕ) (values : List Float) (i : ℕ) where

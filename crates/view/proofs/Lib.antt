@@ -1,6 +1,6 @@
 -- Laws of the definitions.
-pub mod First
 pub mod HeldBy
 pub mod Laid
 pub mod Lays
 pub mod Lowest
+pub mod Turns

@@ -1,126 +1,112 @@
 -- What `lowest` finds: a limit that covers the offset with a size below that of v, none with a smaller one; or there is none.
-use Rattle.std.proofs.Common.{◌≡◌, ℕ, zero, suc, ◌+◌, ◌<◌, ◌≤◌, Bool, true, false, cond, T, ◌⊎◌, List, sym, refl, ap, ◌∙◌, subst, inl, inr, eq-or-lt_of_le, add-one, arith, T_not, eq-eqb, ne_eqb}
+use Rattle.std.proofs.Common.{◌≡◌, Bool, true, false, cond, T, ◌⊎◌, List, [], ◌∷◌, sym, refl, subst, inl, inr, T_not}
+use Rattle.std.specs.Prelude.{Option, Some, None, fold}
+use mathlib.Core.List.{Memᴰ}
+use mathlib.Core.List.Memᴰ
 use lib.Ieee.{Float, lt}
 use lib.Ieee.Fits.{and_i, and_l, and_r}
 use Rattle.ieee.specs.Number.{size}
 use Rattle.ieee.proofs.Order.{of-true, of-false, lt_trans, lt_irrefl}
-use Rattle.column.specs.Records.{record_at, three, two}
+use Rattle.speed.specs.declared.laid.Laid.{Laid}
 use Rattle.speed_laws.specs.Words.{covers}
-use Rattle.view.specs.Holders.{below, speed_or, lowest}
+use Rattle.view.specs.Holders.{below, speed_or, lower, lowest}
 
-module _ (boards tags : List Float) where
-  abbrev covers_at : ℕ → Float → Type 0
-  covers_at i x = T (covers (record_at three boards i).0 (record_at three boards i).2 x)
+module _ (x v : Float) where
+  abbrev covers_at : Laid → Type 0
+  covers_at l = T (covers l.start l.end x)
 
-  abbrev size_at : ℕ → Float
-  size_at i = size (record_at two tags i).0
+  -- l's size is below that of the limit found; below that of v where none is found
+  abbrev Under : Laid → Option Laid → Type 0
+  Under l found = T (lt (size l.value) (size (speed_or v found)))
 
-  below_of : (x v : Float) (i : ℕ) → covers_at i x → T (lt (size_at i) (size v)) → T (below boards tags x v i)
+  below_of : (u : Float) (l : Laid) → covers_at l → T (lt (size l.value) (size u)) → T (below x u l)
   unfolding below
-  below_of x v i c l = and_i (covers (record_at three boards i).0 (record_at three boards i).2 x) (lt (size_at i) (size v)) c l
+  below_of u l c s = and_i (covers l.start l.end x) (lt (size l.value) (size u)) c s
 
-  below-covers : (x v : Float) (i : ℕ) → T (below boards tags x v i) → covers_at i x
+  below-covers : (u : Float) (l : Laid) → T (below x u l) → covers_at l
   unfolding below
-  below-covers x v i b = and_l (covers (record_at three boards i).0 (record_at three boards i).2 x) (lt (size_at i) (size v)) b
+  below-covers u l b = and_l (covers l.start l.end x) (lt (size l.value) (size u)) b
 
-  below-size : (x v : Float) (i : ℕ) → T (below boards tags x v i) → T (lt (size_at i) (size v))
+  below-size : (u : Float) (l : Laid) → T (below x u l) → T (lt (size l.value) (size u))
   unfolding below
-  below-size x v i b = and_r (covers (record_at three boards i).0 (record_at three boards i).2 x) (lt (size_at i) (size v)) b
+  below-size u l b = and_r (covers l.start l.end x) (lt (size l.value) (size u)) b
 
-module _ (tags : List Float) (m : ℕ) (v : Float) where
-  -- the speed to go below: v at first, then that of the limit found
-  pub speed-none : speed_or tags m v m ≡ v
-  speed-none = ap (λ (b : Bool). cond b v (record_at two tags m).0) (eq-eqb m m refl)
+  -- r, found among the limits behind one found before: it is that one, or one of them that covers x with a smaller size; and none of them is below it
+  record Found (limits : List Laid) (before r : Option Laid) : Type 0 where
+    here : (r ≡ before) ⊎ ((l : Laid) × (r ≡ Some l) × Memᴰ l limits × covers_at l × Under l before)
+    least : (k : Laid) → Memᴰ k limits → covers_at k → Under k r → ⊥
 
-  pub speed-some : (r : ℕ) → r < m → speed_or tags m v r ≡ (record_at two tags r).0
-  speed-some r h = ap (λ (b : Bool). cond b v (record_at two tags r).0) (ne_eqb r m (λ e. omega arith))
+  -- no limit is left
+  found-none : (before : Option Laid) → Found [] before before
+  found-none before = record { here = inl refl; least = λ k m. absurd (Memᴰ.not-nil m) }
 
-module _ (boards tags : List Float) (m : ℕ) (x v : Float) where
-  -- r is what is found among the first k
-  record Found (k r : ℕ) : Type 0 where
-    here : (r ≡ m) ⊎ ((r < k) × T (below boards tags x v r))
-    least : (j : ℕ) → j < k → T (below boards tags x (speed_or tags m v r) j) → ⊥
-
-  module _ (k r : ℕ) (h : k < m) (f : Found k r) where
-    -- its size is no greater than that of v, and limit k is below it
-    under : T (below boards tags x (speed_or tags m v r) k) → T (below boards tags x v k)
-    under b = elim f.here [
-      | inl e ↦ subst (λ (u : Float). T (below boards tags x u k)) (ap (speed_or tags m v) e ∙ speed-none tags m v) b
-      | inr w ↦
-          let b' : T (below boards tags x (record_at two tags r).0 k) = subst (λ (u : Float). T (below boards tags x u k)) (speed-some tags m v r (omega arith)) b in
-          below_of boards tags x v k (below-covers boards tags x (record_at two tags r).0 k b') (lt_trans (size_at boards tags k) (size_at boards tags r) (size v) (below-size boards tags x (record_at two tags r).0 k b') (below-size boards tags x v r w.1))
-    ]
-
-    found_here : T (below boards tags x (speed_or tags m v r) k) → Found (suc k) k
-    found_here b = record { here = inr (omega arith, under b); least = least }
+  module _ (l : Laid) (limits : List Laid) (before r : Option Laid) where
+    -- l is below the one found
+    found_here : T (below x (speed_or v before) l) → Found limits (Some l) r → Found (l ∷ limits) before r
+    found_here b f = record { here = here; least = least }
       where
-        least : (j : ℕ) → j < suc k → T (below boards tags x (speed_or tags m v k) j) → ⊥
-        least j l b' =
-            let c : T (below boards tags x (record_at two tags k).0 j) = subst (λ (w : Float). T (below boards tags x w j)) (speed-some tags m v k h) b' in
-            let s = below-size boards tags x (record_at two tags k).0 j c in
-            elim (eq-or-lt_of_le {n = j} {m = k} (omega arith)) [
-              | inl e ↦ lt_irrefl (size_at boards tags k) (subst (λ (i : ℕ). T (lt (size_at boards tags i) (size_at boards tags k))) e s)
-              | inr n ↦ f.least j n (below_of boards tags x (speed_or tags m v r) j (below-covers boards tags x (record_at two tags k).0 j c) (lt_trans (size_at boards tags j) (size_at boards tags k) (size (speed_or tags m v r)) s (below-size boards tags x (speed_or tags m v r) k b)))
-            ]
-
-    found-on : (T (below boards tags x (speed_or tags m v r) k) → ⊥) → Found (suc k) r
-    found-on none = record { here = here; least = least }
-      where
-        here : (r ≡ m) ⊎ ((r < suc k) × T (below boards tags x v r))
-        here = elim f.here [ inl e ↦ inl e | inr w ↦ inr (omega arith, w.1) ]
-
-        least : (j : ℕ) → j < suc k → T (below boards tags x (speed_or tags m v r) j) → ⊥
-        least j l b = elim (eq-or-lt_of_le {n = j} {m = k} (omega arith)) [
-          | inl e ↦ none (subst (λ (i : ℕ). T (below boards tags x (speed_or tags m v r) i)) e b)
-          | inr n ↦ f.least j n b
+        here : (r ≡ before) ⊎ ((k : Laid) × (r ≡ Some k) × Memᴰ k (l ∷ limits) × covers_at k × Under k before)
+        here = elim f.here [
+          | inl e ↦ inr (l, e, Memᴰ.head refl, below-covers (speed_or v before) l b, below-size (speed_or v before) l b)
+          | inr w ↦ inr (w.0, w.1, Memᴰ.tail w.2, w.3, lt_trans (size w.0.value) (size l.value) (size (speed_or v before)) w.4 (below-size (speed_or v before) l b))
         ]
 
-  found : (k : ℕ) → k ≤ m → Found k (lowest boards tags m x v k)
-  unfolding lowest
-  found zero h = record { here = inl refl; least = λ j l. absurd (omega arith) }
-  found (suc k) h = go (below boards tags x (speed_or tags m v (lowest boards tags m x v k)) k) refl (found k (omega arith))
+        -- l is not below r
+        not-under : Under l r → ⊥
+        not-under u = elim f.here [
+          | inl e ↦ lt_irrefl (size l.value) (subst (Under l) e u)
+          | inr w ↦ lt_irrefl (size l.value) (lt_trans (size l.value) (size w.0.value) (size l.value) (subst (Under l) w.1 u) w.4)
+        ]
+
+        least : (k : Laid) → Memᴰ k (l ∷ limits) → covers_at k → Under k r → ⊥
+        least k m c u = elim (Memᴰ.cases_cons m) [ inl e ↦ not-under (subst (λ (j : Laid). Under j r) e u) | inr i ↦ f.least k i c u ]
+
+    -- l is not
+    found-on : (T (below x (speed_or v before) l) → ⊥) → Found limits before r → Found (l ∷ limits) before r
+    found-on none f = record { here = here; least = least }
+      where
+        here : (r ≡ before) ⊎ ((k : Laid) × (r ≡ Some k) × Memᴰ k (l ∷ limits) × covers_at k × Under k before)
+        here = elim f.here [ inl e ↦ inl e | inr w ↦ inr (w.0, w.1, Memᴰ.tail w.2, w.3, w.4) ]
+
+        -- what is below r is below the one found before
+        under : (k : Laid) → Under k r → Under k before
+        under k u = elim f.here [
+          | inl e ↦ subst (Under k) e u
+          | inr w ↦ lt_trans (size k.value) (size w.0.value) (size (speed_or v before)) (subst (Under k) w.1 u) w.4
+        ]
+
+        least : (k : Laid) → Memᴰ k (l ∷ limits) → covers_at k → Under k r → ⊥
+        least k m c u = elim (Memᴰ.cases_cons m) [
+          | inl e ↦ none (subst (λ (j : Laid). T (below x (speed_or v before) j)) e (below_of (speed_or v before) k c (under k u)))
+          | inr i ↦ f.least k i c u
+        ]
+
+  found : (limits : List Laid) (before : Option Laid) → Found limits before (fold (lower x v) before limits)
+  unfolding lower
+  found [] before = found-none before
+  found (l ∷ limits) before = go (below x (speed_or v before) l) refl (found limits (Some l)) (found limits before)
     where
-      go : (b : Bool) → below boards tags x (speed_or tags m v (lowest boards tags m x v k)) k ≡ b → Found k (lowest boards tags m x v k) → Found (suc k) (cond b k (lowest boards tags m x v k))
-      go true e f = found_here k (lowest boards tags m x v k) h f (of-true e)
-      go false e f = found-on k (lowest boards tags m x v k) h f (λ b. T_not (below boards tags x (speed_or tags m v (lowest boards tags m x v k)) k) (of-false e) b)
+      go : (b : Bool) → below x (speed_or v before) l ≡ b → Found limits (Some l) (fold (lower x v) (Some l) limits) → Found limits before (fold (lower x v) before limits)
+          → Found (l ∷ limits) before (fold (lower x v) (cond b (Some l) before) limits)
+      go true e f g = found_here l limits before (fold (lower x v) (Some l) limits) (of-true e) f
+      go false e f g = found-on l limits before (fold (lower x v) before limits) (λ b. T_not (below x (speed_or v before) l) (of-false e) b) g
 
-  -- one limit more
-  module _ (k r : ℕ) (u : Float) (e : r ≡ lowest boards tags m x v k) (f : u ≡ speed_or tags m v r) where
-    turn : (b : Bool) → below boards tags x u k ≡ b → lowest boards tags m x v (k + 1) ≡ cond b k (lowest boards tags m x v k)
-    unfolding lowest
-    turn b t =
-        ap (lowest boards tags m x v) (add-one k)
-        ∙ ap (λ (c : Bool). cond c k (lowest boards tags m x v k)) (ap (λ (w : Float). below boards tags x w k) (sym (f ∙ ap (speed_or tags m v) e)) ∙ t)
-
-    pub lowest-here : below boards tags x u k ≡ true → k ≡ lowest boards tags m x v (k + 1)
-    lowest-here t = sym (turn true t)
-
-    pub lowest-on : below boards tags x u k ≡ false → r ≡ lowest boards tags m x v (k + 1)
-    lowest-on t = e ∙ sym (turn false t)
-
--- of n limits
-module _ (boards tags : List Float) (n : ℕ) (x v : Float) where
+-- of the limits
+module _ (limits : List Laid) (x v : Float) where
   -- the limit found is one of them, covers x, and its size is below that of v
-  pub lowest-covers : (i : ℕ) → lowest boards tags n x v n ≡ i → i < n
-      → T (covers (record_at three boards i).0 (record_at three boards i).2 x) × T (lt (size (record_at two tags i).0) (size v))
-  lowest-covers i e h =
-      elim (found boards tags n x v n (omega arith)).here [
-        | inl q ↦ let z : ⊥ = omega arith in absurd z
-        | inr w ↦
-            let b : T (below boards tags x v i) = subst (λ (j : ℕ). T (below boards tags x v j)) e w.1 in
-            (below-covers boards tags x v i b, below-size boards tags x v i b)
+  pub lowest-covers : (l : Laid) → lowest limits x v ≡ Some l → Memᴰ l limits × T (covers l.start l.end x) × T (lt (size l.value) (size v))
+  lowest-covers l e =
+      elim (found x v limits None).here [
+        | inl q ↦ let z : ⊥ = cc in absurd z
+        | inr w ↦ let q : w.0 ≡ l = cc in subst (λ (k : Laid). Memᴰ k limits × T (covers k.start k.end x) × T (lt (size k.value) (size v))) q (w.2, w.3, w.4)
       ]
 
   -- none has a smaller one
-  pub lowest-least : (i : ℕ) → lowest boards tags n x v n ≡ i → i < n → (k : ℕ) → k < n
-      → T (covers (record_at three boards k).0 (record_at three boards k).2 x) → T (lt (size (record_at two tags k).0) (size (record_at two tags i).0)) → ⊥
-  lowest-least i e h k l c s =
-      (found boards tags n x v n (omega arith)).least k l
-      (subst (λ (u : Float). T (below boards tags x u k)) (sym (ap (speed_or tags n v) e ∙ speed-some tags n v i h)) (below_of boards tags x (record_at two tags i).0 k c s))
+  pub lowest-least : (l : Laid) → lowest limits x v ≡ Some l → (k : Laid) → Memᴰ k limits
+      → T (covers k.start k.end x) → T (lt (size k.value) (size l.value)) → ⊥
+  lowest-least l e k m c s = (found x v limits None).least k m c (subst (Under x v k) (sym e) s)
 
   -- where none is found, none covers x with a size below that of v
-  pub lowest-none : lowest boards tags n x v n ≡ n → (k : ℕ) → k < n
-      → T (covers (record_at three boards k).0 (record_at three boards k).2 x) → T (lt (size (record_at two tags k).0) (size v)) → ⊥
-  lowest-none e k l c s =
-      (found boards tags n x v n (omega arith)).least k l
-      (subst (λ (u : Float). T (below boards tags x u k)) (sym (ap (speed_or tags n v) e ∙ speed-none tags n v)) (below_of boards tags x v k c s))
+  pub lowest-none : lowest limits x v ≡ None → (k : Laid) → Memᴰ k limits
+      → T (covers k.start k.end x) → T (lt (size k.value) (size v)) → ⊥
+  lowest-none e k m c s = (found x v limits None).least k m c (subst (Under x v k) (sym e) s)

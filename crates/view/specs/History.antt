@@ -1,11 +1,7 @@
--- The limits laid since `new`, as the history keeps them: one record of three and one of two for each. Definitions only.
-use Rattle.std.specs.Prelude.{ℕ, ◌-◌, ◌/◌, min, cond, List, [], ◌∷◌, ◌++◌, map, length, take, pos, Float, Option, Some, None}
-use Rattle.std.specs.Float.Ieee as Ieee
-use Rattle.std.specs.Float.{binary64}
+-- The limits laid since `new`, as the history keeps them: the first so many of a slice of records. Definitions only.
+use Rattle.std.specs.Prelude.{ℕ, ◌-◌, cond, List, [], ◌∷◌, ◌++◌, map, length, take, Float, Option, Some, None}
 use Rattle.ieee.specs.Number.{+0}
-use Rattle.column.specs.declared.Two.{Two}
-use Rattle.column.specs.declared.Three.{Three}
-use Rattle.column.specs.Records.{record_at, three, two}
+use Rattle.speed.specs.declared.laid.Laid.{Laid}
 use Rattle.link.specs.declared.train_params.TrainParams.{TrainParams}
 use Rattle.link.specs.declared.speed_set.SpeedSet.{SpeedSet}
 use Rattle.link.specs.Lists.{up_from}
@@ -17,32 +13,9 @@ use Rattle.path_speeds.specs.Limits.{SpeedSets, few_conditions, applying_set, ta
 
 -- ---- the records
 
--- a limit laid: its start, its end without and with the tail, its speed, and the number of its link
-pub record Laid : Type 0 where
-  pub start : Float
-  pub board : Float
-  pub end : Float
-  pub value : Float
-  pub link : Float
-
-abbrev pub laid_from : Three → Two → Laid
-laid_from b t = record { start = b.0; board = b.1; end = b.2; value = t.0; link = t.1 }
-
--- limit k of the two columns
-abbrev pub laid_at : List Float → List Float → ℕ → Laid
-laid_at boards tags k = laid_from (record_at three boards k) (record_at two tags k)
-
--- the first n
-abbrev pub laid_up_to : List Float → List Float → ℕ → List Laid
-laid_up_to boards tags n = up_from (laid_at boards tags) 0 n
-
--- how many limits there is room for
-abbrev pub room : List Float → List Float → ℕ
-room boards tags = min (length boards / 3) (length tags / 2)
-
--- the first n and more behind them, as many as there is room for
-abbrev pub with_more : List Float → List Float → ℕ → List Laid → List Laid
-with_more boards tags n more = take (room boards tags) (laid_up_to boards tags n ++ more)
+-- the first n records and more behind them, as many as there is room for
+abbrev pub with_more : {A : Type 0} → List A → ℕ → List A → List A
+with_more records n more = take (length records) (take n records ++ more)
 
 -- the limit, without its board and its link
 abbrev pub limit_in : Laid → Limit
@@ -52,7 +25,7 @@ limit_in l = record { start = l.start; end = l.end; value = l.value }
 
 -- a limit of the link with this number: as it is laid, and as it would be without a tail
 abbrev pub laid_as : ℕ → Limit → Limit → Laid
-laid_as number l board = record { start = l.start; board = board.end; end = l.end; value = l.value; link = Ieee.of_int binary64 (pos number) }
+laid_as number l board = record { start = l.start; board = board.end; end = l.end; value = l.value; link = number }
 
 -- laid from base on
 abbrev pub laid_of : Float → Float → ℕ → Limit → Laid

@@ -36,41 +36,38 @@ fn strip(n: u64, power: usize) -> Stripped {
         };
     }
     let mut digits = n;
-    let mut p = power;
-    while p < 1000 {
+    for p in power..1000 {
         if digits % 10 != 0 {
             return Stripped { digits, power: p };
         }
         digits = digits / 10;
-        p += 1;
     }
-    Stripped { digits, power: p }
+    Stripped {
+        digits,
+        power: power.max(1000),
+    }
 }
 
 // Digits a to b of a text.
-fn part(text: &[u8], a: usize, b: usize) {
-    if a <= b {
-        if b <= text.len() {
-            say(&text[a..b]);
-        }
+fn part(digits: &[u8], a: usize, b: usize) {
+    if let Some(part) = digits.get(a..b) {
+        say(part);
     }
 }
 
 // n zeros.
 fn zeros(n: usize) {
-    let mut i = 0;
-    while i < n {
+    for _ in 0..n {
         say(b"0");
-        i += 1;
     }
 }
 
-// k digits with the point behind the first, and the power of ten that the first has.
-fn scientific(text: &[u8; 20], k: usize, power: usize) {
-    part(text, 0, 1);
-    if 1 < k {
+// The digits with the point behind the first, and the power of ten that the first has.
+fn scientific(digits: &[u8], power: usize) {
+    part(digits, 0, 1);
+    if 1 < digits.len() {
         say(b".");
-        part(text, 1, k);
+        part(digits, 1, digits.len());
     }
     if ONE <= power {
         say(b"e");
@@ -81,50 +78,44 @@ fn scientific(text: &[u8; 20], k: usize, power: usize) {
     }
 }
 
-// k digits, of which so many are behind the point.
-fn pointed(text: &[u8; 20], k: usize, behind: usize) {
+// The digits, of which so many are behind the point.
+fn pointed(digits: &[u8], behind: usize) {
+    let k = digits.len();
     if behind < k {
-        part(text, 0, k - behind);
+        part(digits, 0, k - behind);
         say(b".");
-        part(text, k - behind, k);
+        part(digits, k - behind, k);
     } else {
         say(b"0.");
         zeros(behind - k);
-        part(text, 0, k);
+        say(digits);
     }
-}
-
-// k digits and zeros behind them.
-fn plainly(text: &[u8; 20], k: usize, behind: usize) {
-    part(text, 0, k);
-    zeros(behind);
 }
 
 // n times a power of ten: in full up to seven digits, or up to six behind the point.
 pub fn figure(n: u64, power: usize) {
     let f = strip(n, power);
     let p = f.power;
-    let mut text = [0u8; 20];
-    let k = io::decimal(f.digits, &mut text);
-    if 20 < k {
-        return;
-    }
     if 1000 < p {
         return;
     }
+    let mut text = [0u8; 20];
+    let k = io::decimal(f.digits, &mut text);
+    let digits = &text[..k];
     if p < ONE {
         if ONE - p <= 6 {
-            pointed(&text, k, ONE - p);
+            pointed(digits, ONE - p);
             return;
         }
     } else {
         if k + (p - ONE) <= 7 {
-            plainly(&text, k, p - ONE);
+            say(digits);
+            zeros(p - ONE);
             return;
         }
     }
     if 0 < k {
-        scientific(&text, k, p + (k - 1));
+        scientific(digits, p + (k - 1));
     }
 }
 
@@ -142,16 +133,16 @@ fn rounded(x: f64, parts: f64, power: usize) {
 }
 
 pub fn thousandths(x: f64) {
-    rounded(x, 1000.0, 397);
+    rounded(x, 1000.0, ONE - 3);
 }
 
 pub fn tenths(x: f64) {
-    rounded(x, 10.0, 399);
+    rounded(x, 10.0, ONE - 1);
 }
 
 // A place on the page.
 pub fn place(x: f64) {
-    rounded(x, 100.0, 398);
+    rounded(x, 100.0, ONE - 2);
 }
 
 // How many digits n has.

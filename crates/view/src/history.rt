@@ -1,21 +1,20 @@
 // What was joined since `new`, dropped links too: limits laid, link borders and heights.
-ghost use Rattle.std.specs.Prelude.{Some, ◌≡◌, min, [], ◌∷◌};
+ghost use Rattle.std.specs.Prelude.{Some, ◌≡◌, ◌≤◌, [], ◌∷◌, length, take};
 ghost use Rattle.link.specs.Train.{length_of, top_speed};
 ghost use Rattle.link.specs.Table.{limit_of};
 ghost use Rattle.path_speeds.specs.Limits.{speed_sets};
 ghost use Rattle.view.specs.History as spec;
 
-use column::{Three, Two};
 use link::cat_power::speed_limit_at;
 use link::speed_set::{SpeedSet, set_for};
 use link::train_params::TrainParams;
 use path::link_point::{LinkPoint, link_point_at};
 use path_speeds::limits::{applying_set, placed, tail_of};
 use si::Length;
+use speed::laid::Laid;
 use speed::speed_limit::SpeedLimit;
 
-// How many limits, link borders and heights there are. A limit has a record of three, start, end and end with its tail, and one of two, speed and link
-// number; a border its offset and the number of the link behind it; a height an offset and the height there.
+// How many limits, link borders and heights there are.
 #[derive(Clone, Copy)]
 pub struct History {
     pub limits: usize,
@@ -31,51 +30,31 @@ pub fn nothing_joined() -> History {
     }
 }
 
-// The smaller of two counts.
-fn fewer(a: usize, b: usize) -> usize
-    ensures { result ≡ min a b }
+// A record behind the first n, where there is room for it; how many there are then.
+pub fn put<T: Copy>(all: &mut [T], n: usize, one: T) -> usize
+    ensures laid { take result all.new ≡ spec.with_more all.old n (one ∷ []) }
+    ensures within { result ≤ length all.new }
 {
-    if a < b { a } else { b }
-}
-
-// How many limits there is room for.
-fn room(boards: &[f64], tags: &[f64]) -> usize
-    ensures { result ≡ spec.room boards.now tags.now }
-{
-    fewer(boards.len() / 3, tags.len() / 2)
-}
-
-// A limit behind the first n, where there is room for it; how many there are then.
-fn put_limit(boards: &mut [f64], tags: &mut [f64], n: usize, b: Three, t: Two) -> usize
-    ensures { spec.laid_up_to boards.new tags.new result
-        ≡ spec.with_more boards.old tags.old n (spec.laid_from b t ∷ []) }
-{
-    let most = room(&*boards, &*tags);
-    if n < most {
-        column::put_record(&mut *boards, n, b);
-        column::put_record(&mut *tags, n, t);
+    if n < all.len() {
+        all[n] = one;
         return n + 1;
     }
-    most
+    all.len()
 }
 
-// Limit l of the link with this number, laid from base on, behind the first n.
-fn add_limit(
-    l: SpeedLimit,
-    base: Length,
-    tail: Length,
-    number: u32,
-    boards: &mut [f64],
-    tags: &mut [f64],
-    n: usize,
-) -> usize
-    ensures { spec.laid_up_to boards.new tags.new result
-        ≡ spec.with_more boards.old tags.old n (spec.laid_of base.0 tail.0 number (limit_of l) ∷ []) }
+// Limit l of the link with this number, laid from base on.
+fn laid_limit(l: SpeedLimit, base: Length, tail: Length, number: u32) -> Laid
+    ensures { result ≡ spec.laid_of base.0 tail.0 number (limit_of l) }
 {
     let laid = placed(l, base, tail);
     let board = placed(l, base, Length(0.0));
-    let b = Three(laid.offset_start.0, board.offset_end.0, laid.offset_end.0);
-    put_limit(boards, tags, n, b, Two(laid.speed.0, number as f64))
+    Laid {
+        start: laid.offset_start.0,
+        board: board.offset_end.0,
+        end: laid.offset_end.0,
+        value: laid.speed.0,
+        link: number,
+    }
 }
 
 // The limits of a set below the top speed, laid from base on, behind the first n; how many there are then.
@@ -85,25 +64,22 @@ fn add_limits(
     base: Length,
     number: u32,
     train: TrainParams,
-    boards: &mut [f64],
-    tags: &mut [f64],
+    all: &mut [Laid],
     n: usize,
 ) -> usize
-    ensures { spec.laid_up_to boards.new tags.new result
-        ≡ spec.with_more boards.old tags.old n
-        (spec.set_lays (top_speed train) base.0 (length_of train) number limits.now (Some s)) }
+    ensures laid { take result all.new
+        ≡ spec.with_more all.old n (spec.set_lays (top_speed train) base.0 (length_of train) number limits.now (Some s)) }
+    ensures within { result ≤ length all.new }
 {
     let tail = tail_of(s, Length(train.length.0));
     let first = s.limits_first as usize;
     let end = first + (s.limits_count as usize);
-    let mut m = fewer(n, room(&*boards, &*tags));
-    let mut i = first;
-    while i < end {
+    let mut m = n.min(all.len());
+    for i in first..end {
         let l = speed_limit_at(limits, i);
         if l.speed.0 < train.speed_max.0 {
-            m = add_limit(l, base, tail, number, &mut *boards, &mut *tags, m);
+            m = put(&mut *all, m, laid_limit(l, base, tail, number));
         }
-        i += 1;
     }
     m
 }
@@ -131,28 +107,19 @@ fn add_link(
     values: &[f64],
     limits: &[f64],
     train: TrainParams,
-    boards: &mut [f64],
-    tags: &mut [f64],
+    all: &mut [Laid],
     n: usize,
 ) -> usize
-    ensures { spec.laid_up_to boards.new tags.new result
-        ≡ spec.with_more boards.old tags.old n (spec.point_lays train (speed_sets sets.now codes.now values.now limits.now) p) }
+    ensures laid { take result all.new
+        ≡ spec.with_more all.old n (spec.point_lays train (speed_sets sets.now codes.now values.now limits.now) p) }
+    ensures within { result ≤ length all.new }
 {
     let number = p.link_idx;
     let found = applying(sets, codes, values, number, train);
     let Some(s) = found else {
-        return fewer(n, room(&*boards, &*tags));
+        return n.min(all.len());
     };
-    add_limits(
-        limits,
-        s,
-        Length(p.offset.0),
-        number,
-        train,
-        boards,
-        tags,
-        n,
-    )
+    add_limits(limits, s, Length(p.offset.0), number, train, all, n)
 }
 
 // The limits of the links at link points from..to, behind the first n, as many as there is room for; how many there are then.
@@ -166,38 +133,18 @@ pub fn add_links(
     values: &[f64],
     limits: &[f64],
     train: TrainParams,
-    boards: &mut [f64],
-    tags: &mut [f64],
+    all: &mut [Laid],
     n: usize,
 ) -> usize
-    ensures { spec.laid_up_to boards.new tags.new result
-        ≡ spec.with_more boards.old tags.old n
+    ensures laid { take result all.new
+        ≡ spec.with_more all.old n
         (spec.lay_from_to train (speed_sets sets.now codes.now values.now limits.now) offsets.now numbers.now from to) }
+    ensures within { result ≤ length all.new }
 {
-    let mut m = fewer(n, room(&*boards, &*tags));
-    let mut k = from;
-    while k < to {
+    let mut m = n.min(all.len());
+    for k in from..to {
         let p = link_point_at(offsets, numbers, k);
-        m = add_link(
-            p,
-            sets,
-            codes,
-            values,
-            limits,
-            train,
-            &mut *boards,
-            &mut *tags,
-            m,
-        );
-        k += 1;
+        m = add_link(p, sets, codes, values, limits, train, &mut *all, m);
     }
     m
-}
-
-// One more of n, where a column of w entries has room for another record.
-pub fn next(n: usize, room: usize) -> usize {
-    if n < room {
-        return n + 1;
-    }
-    n
 }

@@ -3,106 +3,114 @@ ghost use Rattle.std.specs.Prelude.{◌≡◌};
 ghost use Rattle.view.specs.Holders as spec;
 
 use si::Velocity;
+use speed::laid::Laid;
 use speed::speed_limit::lesser;
 
-// Limit i; the top speed; neither, which is said only where a limit that was laid is not among those given.
+// A limit, or the top speed.
 #[derive(Clone, Copy)]
 pub enum Held {
-    Limit(usize),
+    Limit(Laid),
     Top,
-    Unlisted,
 }
 
-// Whether limit i covers x, its tail counted in, and has the size of v.
-fn holds(boards: &[f64], tags: &[f64], i: usize, x: f64, v: f64) -> bool
-    ensures { result ≡ spec.holds boards.now tags.now x v i }
+// Whether a limit covers x, its tail counted in, and has the size of v.
+fn holds(l: Laid, x: f64, v: f64) -> bool
+    ensures { result ≡ spec.holds x v l }
 {
-    let b = column::record_at::<column::Three>(boards, i);
-    let t = column::record_at::<column::Two>(tags, i);
-    ((b.0 <= x) & (x < b.2)) & (ieee::size(t.0) == ieee::size(v))
+    ((l.start <= x) & (x < l.end)) & (ieee::size(l.value) == ieee::size(v))
 }
 
-// The first of n limits that holds v at x; n where none does.
-fn holder(boards: &[f64], tags: &[f64], n: usize, x: f64, v: f64) -> usize
-    ensures { result ≡ spec.first_from (spec.holds boards.now tags.now x v) 0 n }
+// What holds v at x: the first of the limits that does, otherwise the top speed where v has its size; none only where a limit that was laid is not among
+// those given.
+pub fn held_by(limits: &[Laid], x: f64, v: f64, top: Velocity) -> Option<Held>
+    ensures { result ≡ spec.held_by limits.now x v top.0 }
 {
-    let mut i = 0;
-    while i < n {
-        if holds(boards, tags, i, x, v) {
-            return i;
+    for l in limits {
+        if holds(*l, x, v) {
+            return Some(Held::Limit(*l));
         }
-        i += 1;
-    }
-    n
-}
-
-// What holds v at x: the first of n limits that does, otherwise the top speed where v has its size.
-pub fn held_by(boards: &[f64], tags: &[f64], n: usize, x: f64, v: f64, top: Velocity) -> Held
-    ensures { result ≡ spec.held_by boards.now tags.now n x v top.0 }
-{
-    let i = holder(boards, tags, n, x, v);
-    if i < n {
-        return Held::Limit(i);
     }
     if ieee::size(v) == ieee::size(top.0) {
-        return Held::Top;
+        return Some(Held::Top);
     }
-    Held::Unlisted
+    None
+}
+
+// The start of a limit with the size of v where it is behind x and before `to`, otherwise `to`.
+fn sooner(l: Laid, x: f64, to: f64, v: f64) -> f64
+    ensures { result ≡ spec.sooner x v to l }
+{
+    if (x < l.start) & (ieee::size(l.value) == ieee::size(v)) {
+        return lesser(to, l.start);
+    }
+    to
 }
 
 // The first start behind x, and before `to`, of a limit with the size of v; `to` where there is none.
-fn next_start(boards: &[f64], tags: &[f64], n: usize, x: f64, to: f64, v: f64) -> f64
-    ensures { result ≡ spec.next_start boards.now tags.now n x to v }
+fn next_start(limits: &[Laid], x: f64, to: f64, v: f64) -> f64
+    ensures { result ≡ spec.next_start limits.now x to v }
 {
     let mut first = to;
-    let mut i = 0;
-    while i < n {
-        let start = column::record_at::<column::Three>(boards, i).0;
-        let speed = column::record_at::<column::Two>(tags, i).0;
-        if (x < start) & (ieee::size(speed) == ieee::size(v)) {
-            first = lesser(first, start);
-        }
-        i += 1;
+    for l in limits {
+        first = sooner(*l, x, first, v);
     }
     first
 }
 
-// Where a row that begins at x ends, no later than `to`: with the board of the limit that holds it, then with its tail; otherwise at the next limit's start.
-pub fn piece_end(boards: &[f64], tags: &[f64], n: usize, x: f64, to: f64, v: f64, held: Held) -> f64
-    ensures { result ≡ spec.piece_end boards.now tags.now n x to v held }
+// Where the part of a limit that x lies in ends, no later than `to`: its board, then its tail.
+fn part_end(l: Laid, x: f64, to: f64) -> f64
+    ensures { result ≡ spec.part_end l.board l.end x to }
 {
-    let Held::Limit(i) = held else {
-        return next_start(boards, tags, n, x, to, v);
-    };
-    let b = column::record_at::<column::Three>(boards, i);
-    if x < b.1 {
-        return lesser(lesser(b.1, to), b.2);
+    if x < l.board {
+        return lesser(lesser(l.board, to), l.end);
     }
-    lesser(b.2, to)
+    lesser(l.end, to)
 }
 
-// Whether limit i covers x, its tail counted in, with a size below that of v.
-fn below(boards: &[f64], tags: &[f64], i: usize, x: f64, v: f64) -> bool
-    ensures { result ≡ spec.below boards.now tags.now x v i }
+// Where a row that begins at x ends, no later than `to`: with the board of the limit that holds it, then with its tail; otherwise at the next limit's start.
+#[tactic(auto, unfolding(crate::specs::Holders::piece_end))]
+pub fn piece_end(limits: &[Laid], x: f64, to: f64, v: f64, held: Option<Held>) -> f64
+    ensures { result ≡ spec.piece_end limits.now x to v held }
 {
-    let b = column::record_at::<column::Three>(boards, i);
-    let t = column::record_at::<column::Two>(tags, i);
-    ((b.0 <= x) & (x < b.2)) & (ieee::size(t.0) < ieee::size(v))
+    match held {
+        Some(Held::Limit(l)) => part_end(l, x, to),
+        Some(Held::Top) => next_start(limits, x, to, v),
+        None => next_start(limits, x, to, v),
+    }
 }
 
-// Of n limits the first with the smallest size among those that cover x with a size below that of v; n where none does.
-pub fn lowest_below(boards: &[f64], tags: &[f64], n: usize, x: f64, v: f64) -> usize
-    ensures { result ≡ spec.lowest boards.now tags.now n x v n }
+// Whether a limit covers x, its tail counted in, with a size below that of v.
+fn below(l: Laid, x: f64, v: f64) -> bool
+    ensures { result ≡ spec.below x v l }
 {
-    let mut found = n;
-    let mut speed = v;
-    let mut i = 0;
-    while i < n {
-        if below(boards, tags, i, x, speed) {
-            found = i;
-            speed = column::record_at::<column::Two>(tags, i).0;
-        }
-        i += 1;
+    ((l.start <= x) & (x < l.end)) & (ieee::size(l.value) < ieee::size(v))
+}
+
+// The speed of the limit found; v where none is.
+fn speed_or(v: f64, found: Option<Laid>) -> f64
+    ensures { result ≡ spec.speed_or v found }
+{
+    match found {
+        Some(l) => l.value,
+        None => v,
+    }
+}
+
+// A limit in the place of the one found, where it covers x with a smaller size; v has the size to go below at first.
+#[tactic(auto, unfolding(crate::specs::Holders::lower))]
+fn lower(found: Option<Laid>, l: Laid, x: f64, v: f64) -> Option<Laid>
+    ensures { result ≡ spec.lower x v found l }
+{
+    if below(l, x, speed_or(v, found)) { Some(l) } else { found }
+}
+
+// Of the limits the first with the smallest size among those that cover x with a size below that of v; none where none does.
+pub fn lowest_below(limits: &[Laid], x: f64, v: f64) -> Option<Laid>
+    ensures { result ≡ spec.lowest limits.now x v }
+{
+    let mut found = None;
+    for l in limits {
+        found = lower(found, *l, x, v);
     }
     found
 }

@@ -1,5 +1,5 @@
 // The words over a picture: the file, the train, and a legend with a sample of each line and shade.
-use crate::axes::{Frame, has_heights, point, text, toward};
+use crate::axes::{Frame, point, text, toward};
 use crate::figures::{tenths, thousandths};
 use crate::names::written;
 use link::train_params::{TrainParams, TrainType};
@@ -70,7 +70,7 @@ pub fn legend(f: Frame) {
     shade_sample(b"tail", 340.0, b"in its tail");
     line_sample(b"border", 460.0, b"link border");
     let mut x = 590.0;
-    if has_heights(f) {
+    if f.heights.is_some() {
         line_sample(b"height", x, b"height");
         x = 690.0;
     }

@@ -1,17 +1,20 @@
 // The picture of a run as SVG: distance across, the speed posted as a step line, limits with their tails, link borders, dropped links grey, heights below.
-use crate::axes::{Frame, across, axes, has_heights, larger, level, point, text, toward, up};
-use crate::figures::{digit_count, whole};
+use crate::axes::{Frame, Span, axes, larger, point, text, toward};
+use crate::figures::digit_count;
 use crate::legend::{legend, title};
+use crate::profile::{Border, Height};
+use crate::stretches::Posted;
 use link::train_params::TrainParams;
 use show::{plain, say};
+use speed::laid::Laid;
 use speed::speed_limit::lesser;
 
 // What speeds from v on are shaded with, from one offset to another.
 fn bar(f: Frame, from: f64, to: f64, v: f64) {
     if (from < to) & (from < f.last) & (0.0 < to) {
-        let left = across(f, from);
-        let right = larger(across(f, to), left + 1.0);
-        point(b"M", left, up(f, v));
+        let left = f.across(from);
+        let right = larger(f.across(to), left + 1.0);
+        point(b"M", left, f.up(v));
         toward(b"H", right);
         say(b"V96");
         toward(b"H", left);
@@ -19,38 +22,40 @@ fn bar(f: Frame, from: f64, to: f64, v: f64) {
     }
 }
 
+// A part of a limit.
+#[derive(Clone, Copy)]
+enum Part {
+    Board,
+    Tail,
+}
+
 // All limits by their boards, or by their tails, as one shape, so that they have one shade where they overlap.
-fn bars(f: Frame, tail: bool, boards: &[f64], tags: &[f64], n: usize) {
-    let mut i = 0;
-    while i < n {
-        let b = column::record_at::<column::Three>(boards, i);
-        let v = column::record_at::<column::Two>(tags, i).0;
-        if tail {
-            bar(f, b.1, b.2, v);
-        } else {
-            bar(f, b.0, b.1, v);
+fn bars(f: Frame, part: Part, all: &[Laid]) {
+    for l in all {
+        match part {
+            Part::Board => bar(f, l.start, l.board, l.value),
+            Part::Tail => bar(f, l.board, l.end, l.value),
         }
-        i += 1;
     }
 }
 
 // Limits, over the tails.
-fn limits(f: Frame, boards: &[f64], tags: &[f64], n: usize) {
+fn limits(f: Frame, all: &[Laid]) {
     say(b"<path class=\"tail\" d=\"");
-    bars(f, true, boards, tags, n);
+    bars(f, Part::Tail, all);
     say(b"\"/>\n<path class=\"board\" d=\"");
-    bars(f, false, boards, tags, n);
+    bars(f, Part::Board, all);
     say(b"\"/>\n");
 }
 
 // Links that were dropped.
 fn dropped(f: Frame) {
     if 0.0 < f.begin {
-        let right = across(f, f.begin);
+        let right = f.across(f.begin);
         say(b"<path class=\"dropped\" d=\"M60 96");
         toward(b"H", right);
         say(b"V376H60Z");
-        if has_heights(f) {
+        if f.heights.is_some() {
             say(b"M60 440");
             toward(b"H", right);
             say(b"V530H60Z");
@@ -68,32 +73,29 @@ fn border_at(f: Frame, x: f64, n: usize) {
     }
     point(b"M", x, 76.0);
     say(b"V376");
-    if has_heights(f) {
+    if f.heights.is_some() {
         point(b"M", x, 440.0);
         say(b"V530");
     }
 }
 
 // Link borders; one that is not two wide from the last drawn is left out.
-fn borders(f: Frame, col: &[f64], n: usize) {
+fn borders(f: Frame, all: &[Border]) {
     say(b"<path class=\"border\" d=\"");
     let mut drawn = 0.0;
-    let mut i = 0;
-    while i < n {
-        let x = across(f, column::record_at::<column::Two>(col, i).0);
+    for border in all {
+        let x = f.across(border.offset);
         if drawn + 2.0 <= x {
-            border_at(f, x, n);
+            border_at(f, x, all.len());
             drawn = x;
         }
-        i += 1;
     }
     say(b"\"/>\n");
 }
 
 // The number of a link from x on, where there is room for it in the width.
-fn number(x: f64, width: f64, n: f64) {
-    let own = whole(n);
-    let digits = 8.0 * std::num::nearest_u64_to_f64(digit_count(own) as u64);
+fn number(x: f64, width: f64, link: u32) {
+    let digits = 8.0 * std::num::nearest_usize_to_f64(digit_count(link as u64));
     if width < digits + 4.0 {
         return;
     }
@@ -101,116 +103,83 @@ fn number(x: f64, width: f64, n: f64) {
     if digits + 34.0 <= width {
         say(b"link ");
     }
-    plain(own as usize);
+    plain(link as usize);
     say(b"</text>\n");
 }
 
-// The links' numbers.
-fn numbers(f: Frame, col: &[f64], n: usize) {
-    let mut i = 0;
-    while i < n {
-        let b = column::record_at::<column::Two>(col, i);
-        let end = if i + 1 < n {
-            column::record_at::<column::Two>(col, i + 1).0
-        } else {
-            f.last
+// The links' numbers, each up to the next border.
+fn numbers(f: Frame, all: &[Border]) {
+    for (i, border) in all.iter().enumerate() {
+        let end = match all.get(i + 1) {
+            Some(next) => next.offset,
+            None => f.last,
         };
-        let x = across(f, b.0);
-        number(x, across(f, end) - x, b.1);
-        i += 1;
+        let x = f.across(border.offset);
+        number(x, f.across(end) - x, border.link);
     }
 }
 
 // The place of the speed posted where the path begins.
-fn beginning(f: Frame, speeds: &[f64], n: usize) -> f64 {
-    let mut y = up(f, column::record_at::<column::Two>(speeds, 0).1);
-    let mut i = 0;
-    while i < n {
-        let p = column::record_at::<column::Two>(speeds, i);
+fn beginning(f: Frame, posted: Posted) -> f64 {
+    let mut y = f.up(posted.at(0).1);
+    for i in 0..posted.count {
+        let p = posted.at(i);
         if p.0 <= f.begin {
-            y = up(f, p.1);
+            y = f.up(p.1);
         }
-        i += 1;
     }
     y
 }
 
 // The speeds posted, as a step line from the path's beginning to its end.
-fn steps(f: Frame, speeds: &[f64], n: usize) {
+fn steps(f: Frame, posted: Posted) {
     say(b"<path class=\"posted\" d=\"");
-    point(b"M", across(f, f.begin), beginning(f, speeds, n));
-    let mut i = 0;
-    while i < n {
-        let p = column::record_at::<column::Two>(speeds, i);
+    point(b"M", f.across(f.begin), beginning(f, posted));
+    for i in 0..posted.count {
+        let p = posted.at(i);
         if (f.begin < p.0) & (p.0 < f.last) {
-            toward(b"H", across(f, p.0));
-            toward(b"V", up(f, p.1));
+            toward(b"H", f.across(p.0));
+            toward(b"V", f.up(p.1));
         }
-        i += 1;
     }
-    toward(b"H", across(f, f.last));
+    toward(b"H", f.across(f.last));
     say(b"\"/>\n");
 }
 
-// A height at an offset, as a point of the line that goes on or of a new one; none at a break. Whether the line goes on from there.
-fn vertex(f: Frame, o: f64, h: f64, goes_on: bool) -> bool {
-    if !ieee::is_finite(h) {
-        return false;
-    }
-    if goes_on {
-        point(b"L", across(f, o), level(f, h));
-    } else {
-        point(b"M", across(f, o), level(f, h));
-    }
-    true
-}
-
-// The heights.
-fn heights(f: Frame, col: &[f64], n: usize) {
+// The heights: points of a line that goes on behind each but a break.
+fn heights(f: Frame, span: Span, all: &[Height]) {
     say(b"<path class=\"height\" d=\"");
     let mut goes_on = false;
-    let mut i = 0;
-    while i < n {
-        let h = column::record_at::<column::Two>(col, i);
-        goes_on = vertex(f, h.0, h.1, goes_on);
-        i += 1;
+    for h in all {
+        let is_point = ieee::is_finite(h.height);
+        if is_point {
+            let letter = if goes_on { b"L" } else { b"M" };
+            point(letter, f.across(h.offset), span.level(h.height));
+        }
+        goes_on = is_point;
     }
     say(b"\"/>\n");
 }
 
-// The frame with the lowest and the highest of n heights; a break is neither.
-fn reaching(f: Frame, col: &[f64], n: usize) -> Frame {
+// From the lowest to the highest of the heights, a break being neither; none where there are breaks alone. Heights that are all one get room around them.
+fn span_of(all: &[Height]) -> Option<Span> {
     let mut low = 1.0 / 0.0;
     let mut high = -low;
-    let mut i = 0;
-    while i < n {
-        let h = column::record_at::<column::Two>(col, i).1;
-        low = lesser(low, h);
-        high = larger(high, h);
-        i += 1;
+    for h in all {
+        low = lesser(low, h.height);
+        high = larger(high, h.height);
     }
-    Frame {
-        begin: f.begin,
-        last: f.last,
-        reach: f.reach,
-        low,
-        high,
+    if !(low <= high) {
+        return None;
     }
-}
-
-// Heights that are all one get room around them.
-fn with_room(f: Frame) -> Frame {
-    if !(f.low == f.high) {
-        return f;
+    if low == high {
+        let room = larger(0.5, ieee::size(low) / 1000000.0);
+        return Some(Span {
+            low: low - room,
+            high: high + room,
+        });
     }
-    let room = larger(0.5, ieee::size(f.low) / 1000000.0);
-    Frame {
-        begin: f.begin,
-        last: f.last,
-        reach: f.reach,
-        low: f.low - room,
-        high: f.high + room,
-    }
+    Some(Span { low, high })
 }
 
 // The page, as high as asked for.
@@ -245,17 +214,15 @@ fn empty(name: &[u8], train: TrainParams) {
 }
 
 // What the picture shows of a path from `begin` to `last`: speeds a little beyond the top speed; 1 m/s where that is 0.
-fn frame_of(begin: f64, last: f64, top: f64, height: &[f64], height_count: usize) -> Frame {
+fn frame_of(begin: f64, last: f64, top: f64, all: &[Height]) -> Frame {
     let size = ieee::size(top);
     let reach = if 0.0 < size { size * 1.05 } else { 1.0 };
-    let f = Frame {
+    Frame {
         begin,
         last,
         reach,
-        low: 0.0,
-        high: 0.0,
-    };
-    with_room(reaching(f, height, height_count))
+        heights: span_of(all),
+    }
 }
 
 // The whole picture: of a file, a train, and a path from `begin` to `last`.
@@ -264,32 +231,27 @@ pub fn picture(
     train: TrainParams,
     begin: f64,
     last: f64,
-    speeds: &[f64],
-    count: usize,
-    boards: &[f64],
-    tags: &[f64],
-    limit_count: usize,
-    border: &[f64],
-    border_count: usize,
-    height: &[f64],
-    height_count: usize,
+    posted: Posted,
+    all_limits: &[Laid],
+    all_borders: &[Border],
+    all_heights: &[Height],
 ) {
     if !(0.0 < last) {
         empty(name, train);
         return;
     }
-    let f = frame_of(begin, last, train.speed_max.0, height, height_count);
-    head(if has_heights(f) { 545 } else { 425 });
+    let f = frame_of(begin, last, train.speed_max.0, all_heights);
+    head(if f.heights.is_some() { 545 } else { 425 });
     title(name, train);
     legend(f);
-    limits(f, boards, tags, limit_count);
+    limits(f, all_limits);
     dropped(f);
     axes(f);
-    borders(f, border, border_count);
-    numbers(f, border, border_count);
-    steps(f, speeds, count);
-    if has_heights(f) {
-        heights(f, height, height_count);
+    borders(f, all_borders);
+    numbers(f, all_borders);
+    steps(f, posted);
+    if let Some(span) = f.heights {
+        heights(f, span, all_heights);
     }
     say(b"</svg>\n");
 }

@@ -1,27 +1,40 @@
 // Link borders and heights of every link joined, dropped ones too.
-use crate::history::next;
-use column::Two;
+use crate::history::put;
 use link::elev::elev_at;
 use link::network::link_numbers;
 use path::link_point::link_point_at;
-use si::Length;
 
-// The borders of the links at link points from..to.
+// Where a link begins, and its number.
+#[derive(Clone, Copy, Default)]
+pub struct Border {
+    pub offset: f64,
+    pub link: u32,
+}
+
+// The height at an offset; the line is broken where the height is a NaN.
+#[derive(Clone, Copy, Default)]
+pub struct Height {
+    pub offset: f64,
+    pub height: f64,
+}
+
+// The borders of the links at link points from..to, behind the first n; how many there are then.
 pub fn add_borders(
     offsets: &[f64],
     numbers: &[u32],
     from: usize,
     to: usize,
-    borders: &mut [f64],
+    borders: &mut [Border],
     n: usize,
 ) -> usize {
     let mut m = n;
-    let mut k = from;
-    while k < to {
+    for k in from..to {
         let p = link_point_at(offsets, numbers, k);
-        column::put_record(&mut *borders, m, Two(p.offset.0, p.link_idx as f64));
-        m = next(m, borders.len() / 2);
-        k += 1;
+        let border = Border {
+            offset: p.offset.0,
+            link: p.link_idx,
+        };
+        m = put(&mut *borders, m, border);
     }
     m
 }
@@ -31,45 +44,38 @@ fn broken() -> f64 {
     0.0 / 0.0
 }
 
-// The elevations of a link that begins at base, samples first..end, and a break behind them.
-fn add_samples(
-    elevs: &[f64],
-    first: usize,
-    end: usize,
-    base: Length,
-    heights: &mut [f64],
-    n: usize,
-) -> usize {
-    let mut m = n;
-    let mut k = first;
-    while k < end {
-        let e = elev_at(elevs, k);
-        column::put_record(&mut *heights, m, Two(base.0 + e.offset.0, e.elev.0));
-        m = next(m, heights.len() / 2);
-        k += 1;
-    }
-    column::put_record(&mut *heights, m, Two(base.0, broken()));
-    next(m, heights.len() / 2)
-}
-
-// The heights of the link at link point k, as the table has them; a link without elevations adds a break alone.
+// The heights of the link at link point k, as the table has them, and a break behind them; a link without elevations adds a break alone.
 fn add_link(
     offsets: &[f64],
     numbers: &[u32],
     k: usize,
     links: &[u32],
     elevs: &[f64],
-    heights: &mut [f64],
+    heights: &mut [Height],
     n: usize,
 ) -> usize {
     let p = link_point_at(offsets, numbers, k);
+    let base = p.offset.0;
     let l = link_numbers(links, p.link_idx as usize);
     let first = l.elevs_first as usize;
     let end = first + l.elevs_count as usize;
-    add_samples(elevs, first, end, Length(p.offset.0), &mut *heights, n)
+    let mut m = n;
+    for i in first..end {
+        let e = elev_at(elevs, i);
+        let height = Height {
+            offset: base + e.offset.0,
+            height: e.elev.0,
+        };
+        m = put(&mut *heights, m, height);
+    }
+    let end_of_line = Height {
+        offset: base,
+        height: broken(),
+    };
+    put(&mut *heights, m, end_of_line)
 }
 
-// The heights of the links at link points from..to.
+// The heights of the links at link points from..to, behind the first n; how many there are then.
 pub fn add_heights(
     offsets: &[f64],
     numbers: &[u32],
@@ -77,14 +83,12 @@ pub fn add_heights(
     to: usize,
     links: &[u32],
     elevs: &[f64],
-    heights: &mut [f64],
+    heights: &mut [Height],
     n: usize,
 ) -> usize {
     let mut m = n;
-    let mut k = from;
-    while k < to {
+    for k in from..to {
         m = add_link(offsets, numbers, k, links, elevs, &mut *heights, m);
-        k += 1;
     }
     m
 }

@@ -1,27 +1,51 @@
 // The table of stretches: from, to, the speed posted, and what holds there.
-use crate::holders::{Held, held_by, piece_end};
-use show::{plain, real, real_in, say};
-use si::Velocity;
+ghost use Rattle.std.specs.Prelude.{◌<◌};
 
-// The link of limit i.
-fn link_of(tags: &[f64], i: usize) {
-    say(b"link ");
-    real(column::record_at::<column::Two>(tags, i).1);
+use crate::holders::{Held, held_by, piece_end};
+use column::Two;
+use show::{plain, real_in, say};
+use si::Velocity;
+use speed::laid::Laid;
+
+// The speed points of a path, the first `count` records of a column: an offset, and the speed posted from there on.
+#[derive(Clone, Copy)]
+pub struct Posted<'a> {
+    pub column: &'a [f64],
+    pub count: usize,
 }
 
-// What holds a row that begins at x: a limit by its board or its tail, or the top speed.
-fn reason(boards: &[f64], tags: &[f64], held: Held, x: f64) {
+impl<'a> Posted<'a> {
+    // Point k.
+    pub fn at(self, k: usize) -> Two {
+        column::record_at::<Two>(self.column, k)
+    }
+
+    // Where the stretch from point k on ends; that of the last point has no end.
+    fn end(self, k: usize) -> f64
+        requires { k < self.count }
+    {
+        if k + 1 < self.count {
+            self.at(k + 1).0
+        } else {
+            endless()
+        }
+    }
+}
+
+// What holds a row that begins at x: a limit by its board or its tail, or the top speed; none only where the limit is not among those listed.
+fn reason(held: Option<Held>, x: f64) {
     match held {
-        Held::Limit(i) => {
-            if x < column::record_at::<column::Three>(boards, i).1 {
+        Some(Held::Limit(l)) => {
+            if x < l.board {
                 say(b"limit of ");
             } else {
                 say(b"tail of the limit of ");
             }
-            link_of(tags, i);
+            say(b"link ");
+            plain(l.link as usize);
         }
-        Held::Top => say(b"top speed"),
-        Held::Unlisted => say(b"a limit not listed here"),
+        Some(Held::Top) => say(b"top speed"),
+        None => say(b"a limit not listed here"),
     }
 }
 
@@ -44,40 +68,31 @@ fn row(x: f64, to: f64, v: f64) {
 
 // The rows of a stretch from x up to `to` with speed v, one for each piece that another limit, or its tail, holds; at most 10,000, and a word where
 // there are more.
-fn pieces(boards: &[f64], tags: &[f64], n: usize, from: f64, to: f64, v: f64, top: Velocity) {
+fn pieces(limits: &[Laid], from: f64, to: f64, v: f64, top: Velocity) {
     let mut x = from;
-    let mut left: usize = 10000;
-    while 0 < left {
+    for _ in 0..10000 {
         if !(x < to) {
             return;
         }
-        let held = held_by(boards, tags, n, x, v, Velocity(top.0));
-        let next = piece_end(boards, tags, n, x, to, v, held);
+        let held = held_by(limits, x, v, Velocity(top.0));
+        let next = piece_end(limits, x, to, v, held);
         row(x, next, v);
-        reason(boards, tags, held, x);
+        reason(held, x);
         say(b"\n");
         x = next;
-        left -= 1;
     }
     if x < to {
         say(b"        .. and more\n");
     }
 }
 
-// The table of a path with `count` speed points: the stretch of the last one has no end.
-pub fn table(speeds: &[f64], count: usize, boards: &[f64], tags: &[f64], n: usize, top: Velocity) {
+// The table of a path.
+pub fn table(posted: Posted, limits: &[Laid], top: Velocity) {
     say(b"      from        to   speed  held by\n");
-    let mut k = 0;
-    while k < count {
-        let p = column::record_at::<column::Two>(speeds, k);
-        let to = if k + 1 < count {
-            column::record_at::<column::Two>(speeds, k + 1).0
-        } else {
-            endless()
-        };
-        pieces(boards, tags, n, p.0, to, p.1, Velocity(top.0));
-        k += 1;
+    for k in 0..posted.count {
+        let p = posted.at(k);
+        pieces(limits, p.0, posted.end(k), p.1, Velocity(top.0));
     }
-    plain(count);
+    plain(posted.count);
     say(b" speed points\n");
 }

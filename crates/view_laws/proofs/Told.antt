@@ -1,6 +1,4 @@
 -- The records tell of every limit laid, link point by link point.
-use Prim.Native.Nat.{ℕ, suc, ◌+◌, ◌<◌}
-use native.Mathlib.Omega.{arith}
 use mathlib.Core.Path.{◌≡◌, sym, ap, ◌∙◌, subst}
 use mathlib.Core.Logic.{inl, inr}
 use mathlib.Core.Bool.{Bool, true, false}
@@ -10,9 +8,7 @@ use lib.Dec.{T}
 use lib.Ieee.{Float}
 use lib.Ieee.Bits.{is_true}
 use lib.Ieee.Fits.{and_l, and_r}
-use lib.ListN.{length, get_or, length-append, get_or-append}
-use lib.Seq.{get_or-append-add}
-use Rattle.ieee.specs.Number.{+0}
+use lib.ListN.{take}
 use Rattle.ieee.proofs.Order.{of-true}
 use Rattle.link.specs.declared.train_params.TrainParams.{TrainParams}
 use Rattle.link.specs.Lists.{every}
@@ -21,14 +17,20 @@ use Rattle.link.specs.Table as table
 use Rattle.path.specs.declared.link_point.LinkPoint.{LinkPoint}
 use Rattle.path.specs.Records.{offset_of, number_of}
 use Rattle.path_speeds.specs.Limits.{SpeedSets, lowers, cons_if, lowering, entering_at, laying_at, point_few}
-use Rattle.view.specs.History.{Laid, laid_at, limit_in, point_lays, points_lay}
-use Rattle.view.proofs.Laid.{laid-fits, laid-count, laid-old, laid-new}
+use Rattle.speed.specs.declared.laid.Laid.{Laid}
+use Rattle.view.specs.History.{limit_in, point_lays, points_lay}
+use Rattle.view.proofs.Laid.{laid-fits}
 use Rattle.view.proofs.Lays.{lays-laying}
 use Rattle.view_laws.specs.Named.{Tells, entering_all, StillTold}
 
--- what is read past the end of a list
-abbrev none : Laid
-none = record { start = +0; board = +0; end = +0; value = +0; link = +0 }
+-- what stands in one of two lists
+in-left : {A : Type 0} (x : A) (xs ys : List A) → Memᴰ x xs → Memᴰ x (xs ++ ys)
+in-left x [] ys m = absurd (Memᴰ.not-nil m)
+in-left x (y ∷ xs) ys m = elim (Memᴰ.cases_cons m) [ inl e ↦ Memᴰ.head e | inr i ↦ Memᴰ.tail (in-left x xs ys i) ]
+
+in-right : {A : Type 0} (x : A) (xs ys : List A) → Memᴰ x ys → Memᴰ x (xs ++ ys)
+in-right x [] ys m = m
+in-right x (y ∷ xs) ys m = Memᴰ.tail (in-right x xs ys m)
 
 -- a limit below the top speed is among those below it
 lowered : (top : Float) (l : table.Limit) (ls : List table.Limit) → Memᴰ l ls → T (lowers top l) → Memᴰ l (lowering top ls)
@@ -47,16 +49,13 @@ lowered top l (k ∷ ls) m b = elim (Memᴰ.cases_cons m) [
     later true i = Memᴰ.tail i
     later false i = i
 
--- where a limit stands among those laid
+-- one of the records is that of a limit
 abbrev Stands : List Laid → table.Limit → Type 0
-Stands xs l = (j : ℕ) × (j < length xs) × (limit_in (get_or xs j none) ≡ l)
+Stands xs l = (r : Laid) × Memᴰ r xs × (limit_in r ≡ l)
 
 stands : (l : table.Limit) (xs : List Laid) → Memᴰ l (map limit_in xs) → Stands xs l
 stands l [] m = absurd (Memᴰ.not-nil m)
-stands l (x ∷ xs) m = elim (Memᴰ.cases_cons m) [ inl e ↦ (0, omega arith, sym e) | inr i ↦ next (stands l xs i) ]
-  where
-    next : Stands xs l → Stands (x ∷ xs) l
-    next s = (suc s.0, omega arith, s.2)
+stands l (x ∷ xs) m = elim (Memᴰ.cases_cons m) [ inl e ↦ (x, Memᴰ.head (λ i. x), sym e) | inr i ↦ let s = stands l xs i in (s.0, Memᴰ.tail s.1, s.2) ]
 
 module _ (train : TrainParams) (q : SpeedSets) where
   -- of a link
@@ -76,45 +75,23 @@ module _ (train : TrainParams) (q : SpeedSets) where
   ]
     where
       first : Stands (point_lays train q p) l → Stands (point_lays train q p ++ points_lay train q ps) l
-      first s = (
-        s.0,
-        omega (arith, length-append (point_lays train q p) (points_lay train q ps)),
-        ap limit_in (get_or-append (point_lays train q p) (points_lay train q ps) none s.0 s.1) ∙ s.2,
-      )
+      first s = (s.0, in-left s.0 (point_lays train q p) (points_lay train q ps) s.1, s.2)
 
       later : Stands (points_lay train q ps) l → Stands (point_lays train q p ++ points_lay train q ps) l
-      later s = (
-        length (point_lays train q p) + s.0,
-        omega (arith, length-append (point_lays train q p) (points_lay train q ps)),
-        ap limit_in (get_or-append-add (point_lays train q p) (points_lay train q ps) s.0 none) ∙ s.2,
-      )
+      later s = (s.0, in-right s.0 (point_lays train q p) (points_lay train q ps) s.1, s.2)
 
 -- a record that reads as the limit tells of it
-tells : (boards tags : List Float) (k : ℕ) (l : table.Limit) → limit_in (laid_at boards tags k) ≡ l → Tells boards tags k l
-tells boards tags k l e =
+tells : (r : Laid) (l : table.Limit) → limit_in r ≡ l → Tells r l
+tells r l e =
     record { start = ap (λ (m : table.Limit). m.start) e; end = ap (λ (m : table.Limit). m.end) e; value = ap (λ (m : table.Limit). m.value) e }
 
 pub still-told : StillTold
-still-told train q ps few boards tags boards' tags' n r h e limits told l m b =
+still-told train q ps few laid laid' n r h e limits told l m b =
     let more = points_lay train q ps in
-    let all = e ∙ laid-fits boards tags n more h in
-    let count = laid-count boards tags n boards' tags' r more all in
+    let all : take r laid' ≡ take n laid ++ more = e ∙ laid-fits laid n more h in
     elim (Memᴰ.append_cases limits m) [
-      | inl i ↦
-          let t = told l i b in
-          let same = laid-old boards tags n boards' tags' r more all t.0 t.1 in (
-            t.0,
-            omega arith,
-            record {
-              start = ap (λ (x : Laid). x.start) same ∙ t.2.start;
-              end = ap (λ (x : Laid). x.end) same ∙ t.2.end;
-              value = ap (λ (x : Laid). x.value) same ∙ t.2.value;
-            },
-          )
+      | inl i ↦ let t = told l i b in (t.0, subst (Memᴰ t.0) (sym all) (in-left t.0 (take n laid) more t.1), t.2)
       | inr i ↦
-          let s = of-links train q ps (of-true few) l i b in (
-            n + s.0,
-            omega arith,
-            tells boards' tags' (n + s.0) l (ap limit_in (laid-new boards tags n boards' tags' r more all s.0 none s.1) ∙ s.2),
-          )
+          let s = of-links train q ps (of-true few) l i b in
+          (s.0, subst (Memᴰ s.0) (sym all) (in-right s.0 (take n laid) more s.1), tells s.0 l s.2)
     ]

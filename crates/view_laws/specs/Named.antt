@@ -1,8 +1,7 @@
 -- What the view names as holding a stretch, against the book of the calls; and the records that tell of the limits laid. Definitions only.
-use Rattle.std.specs.Prelude.{ℕ, ◌+◌, ◌≤◌, ◌<◌, ◌≡◌, true, T, length, Float}
+use Rattle.std.specs.Prelude.{ℕ, ◌+◌, ◌≤◌, ◌≡◌, true, T, None, length, take, Float}
 use mathlib.Core.List.{List, [], ◌∷◌, ◌++◌, Memᴰ}
 use Rattle.std.specs.Float.Ieee as Ieee
-use Rattle.column.specs.Records.{record_at, three, two}
 use Rattle.link.specs.declared.train_params.TrainParams.{TrainParams}
 use Rattle.link.specs.Lists.{every}
 use Rattle.link.specs.Train.{length_of, top_speed}
@@ -15,29 +14,29 @@ use Rattle.path_speeds.specs.Limits.{SpeedSets, lowers, entering_at, point_few}
 use Rattle.book.specs.Book.{Call, first_end, book_of}
 use Rattle.book.specs.Claims.{posted_at}
 use Rattle.book.specs.Demand.{CallsF64, ran_from_new}
-use Rattle.view.specs.declared.holders.Held.TheVariants.{Unlisted}
-use Rattle.view.specs.History.{laid_up_to, room, with_more, points_lay}
+use Rattle.speed.specs.declared.laid.Laid.{Laid}
+use Rattle.view.specs.History.{with_more, points_lay}
 use Rattle.view.specs.Holders.{held_by}
 
--- record k tells of the limit: its start, its end with the tail, and its speed
-pub record Tells (boards tags : List Float) (k : ℕ) (l : table.Limit) : Type 0 where
-  pub start : (record_at three boards k).0 ≡ l.start
-  pub end : (record_at three boards k).2 ≡ l.end
-  pub value : (record_at two tags k).0 ≡ l.value
+-- a record tells of the limit: its start, its end with the tail, and its speed
+pub record Tells (r : Laid) (l : table.Limit) : Type 0 where
+  pub start : r.start ≡ l.start
+  pub end : r.end ≡ l.end
+  pub value : r.value ≡ l.value
 
--- of the limits, each that was laid is told of by one of the n records
-abbrev pub AllTold : List Float → List Float → ℕ → Float → List table.Limit → Type 0
-AllTold boards tags n top limits = (l : table.Limit) → Memᴰ l limits → T (lowers top l) → (k : ℕ) × (k < n) × Tells boards tags k l
+-- of the limits, each that was laid is told of by one of the records
+abbrev pub AllTold : List Laid → Float → List table.Limit → Type 0
+AllTold laid top limits = (l : table.Limit) → Memᴰ l limits → T (lowers top l) → (r : Laid) × Memᴰ r laid × Tells r l
 
 -- After every list of calls of demand 3, where the records tell of every limit laid, a limit or the top speed is named at every offset not before the
 -- path's beginning
 abbrev pub AlwaysNamed : Type 0
 AlwaysNamed =
     (train : TrainParams) (columns : Columns) (calls : List Call) → CallsF64 calls → is_done (new_of train columns).answer.answer ≡ true →
-    (boards tags : List Float) (n : ℕ) → AllTold boards tags n (top_speed train) (book_of train (ran_from_new train columns calls).told).limits →
+    (laid : List Laid) → AllTold laid (top_speed train) (book_of train (ran_from_new train columns calls).told).limits →
     (x : Float) → T (Ieee.le (first_end (book_of train (ran_from_new train columns calls).told).ends) x) →
-    held_by boards tags n x (posted_at (path_of (ran_from_new train columns calls).path (ran_from_new train columns calls).columns).speeds x) (top_speed train)
-    ≡ Unlisted → ⊥
+    held_by laid x (posted_at (path_of (ran_from_new train columns calls).path (ran_from_new train columns calls).columns).speeds x) (top_speed train)
+    ≡ None → ⊥
 
 -- the limits that the links of link points enter, one link after the other
 unfoldable pub entering_all : TrainParams → SpeedSets → List LinkPoint → List table.Limit
@@ -49,7 +48,7 @@ entering_all train q (p ∷ ps) = entering_at train (length_of train) q (offset_
 abbrev pub StillTold : Type 0
 StillTold =
     (train : TrainParams) (q : SpeedSets) (ps : List LinkPoint) → every (point_few train q) ps ≡ true →
-    (boards tags boards' tags' : List Float) (n r : ℕ) → n + length (points_lay train q ps) ≤ room boards tags →
-    laid_up_to boards' tags' r ≡ with_more boards tags n (points_lay train q ps) →
-    (limits : List table.Limit) → AllTold boards tags n (top_speed train) limits →
-    AllTold boards' tags' r (top_speed train) (limits ++ entering_all train q ps)
+    (laid laid' : List Laid) (n r : ℕ) → n + length (points_lay train q ps) ≤ length laid →
+    take r laid' ≡ with_more laid n (points_lay train q ps) →
+    (limits : List table.Limit) → AllTold (take n laid) (top_speed train) limits →
+    AllTold (take r laid') (top_speed train) (limits ++ entering_all train q ps)

@@ -1,13 +1,10 @@
 -- `follow`: by whether there are points, and room for two more.
-use mathlib.Core.Path.{sym, ap₂, ◌∙◌}
+use mathlib.Core.Path.{sym, ◌∙◌}
 use mathlib.Core.List.{[]}
 use native.Mathlib.Omega.{arith}
 use lib.ListN.{length}
-use Rattle.column.specs.declared.Two.{Two}
-use Rattle.column.specs.declared.Three.{Three}
 use Rattle.speed.specs.Column.{points}
 use Rattle.speed.proofs.PointColumn.{length-points, fits-points, leaves_at}
-use Rattle.original.specs.Original.{insert_original}
 use Rattle.original.proofs.Followed.{none-held, none_kept, follow-none, follow-full, follow_one}
 use Rattle.original.proofs.run.follow.Goals as goal
 
@@ -38,5 +35,4 @@ returns c =
     let ps = points a.m a.col.now in
     let l = length-points a.m a.col.now in
     leaves_at c.insert_as_original.new.col c.insert_as_original.result _ _ c.insert_as_original.ensures
-    (ap₂ (λ (b : Three) (t : Two). insert_original ps b.0 b.2 t.0) c.record_at-b.ensures c.record_at-t.ensures
-    ∙ sym (follow_one (length a.col.now) ps _ _ _ (omega arith) (omega arith)))
+    (sym (follow_one (length a.col.now) ps _ _ _ (omega arith) (omega arith)))

@@ -1,22 +1,29 @@
 -- `add_link`: the set that is taken, and then its limits.
-use Rattle.std.proofs.Common.{min, sym, ap, ◌∙◌, Some}
+use Rattle.std.proofs.Common.{ℕ, take, sym, ap, ◌∙◌, arith, Some}
 use Rattle.path_speeds.specs.Limits.{speed_sets}
-use Rattle.view.specs.History.{laid_up_to, with_more}
-use Rattle.view.proofs.Laid.{laid_none}
+use Rattle.view.specs.History.{with_more}
+use Rattle.view.proofs.Laid.{take_min}
 use Rattle.view.proofs.Lays.{lays-by, lays-none}
 use Rattle.view.proofs.history.add_link.Goals as goal
 
 pub returns-in_default : goal.returns-in_default
 returns-in_default c =
     let a = c.args in
+    let all = a.all.now in
     let q = speed_sets a.sets.now a.codes.now a.values.now a.limits.now in
-    ap (laid_up_to a.boards.now a.tags.now) (c.fewer.ensures ∙ ap (min a.n) c.room.ensures)
-    ∙ laid_none a.boards.now a.tags.now a.n
-    ∙ ap (with_more a.boards.now a.tags.now a.n) (lays-none a.train q a.p c.applying-found.result c.applying-found.ensures c.in_default.is)
+    record {
+      laid = ap (λ (k : ℕ). take k all) c.min.ensures
+          ∙ take_min all a.n
+          ∙ ap (with_more all a.n) (lays-none a.train q a.p c.applying-found.result c.applying-found.ensures c.in_default.is);
+      within = omega arith;
+    }
 
 pub returns : goal.returns
 returns c =
     let a = c.args in
     let q = speed_sets a.sets.now a.codes.now a.values.now a.limits.now in
-    c.add_limits.ensures
-    ∙ ap (with_more a.boards.now a.tags.now a.n) (lays-by a.train q a.p (Some c.in-Some.s) (sym c.in-Some.is ∙ c.applying-found.ensures))
+    record {
+      laid = c.add_limits.ensures.laid
+          ∙ ap (with_more a.all.now a.n) (lays-by a.train q a.p (Some c.in-Some.s) (sym c.in-Some.is ∙ c.applying-found.ensures));
+      within = c.add_limits.ensures.within;
+    }

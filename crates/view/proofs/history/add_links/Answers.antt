@@ -1,5 +1,5 @@
 -- `add_links`: what is left to add from link point k on gives what was to be added at first.
-use Rattle.std.proofs.Common.{◌+◌, min, ap, ◌∙◌, arith}
+use Rattle.std.proofs.Common.{◌+◌, arith}
 use Rattle.path_speeds.specs.Limits.{speed_sets}
 use Rattle.view.specs.History.{point_lays, lay_from_to}
 use Rattle.view.proofs.Laid.{adding-first, adding-more, adding-last}
@@ -10,10 +10,7 @@ pub loop-k-init : goal.loop-k-init
 loop-k-init c =
     let a = c.args in
     let q = speed_sets a.sets.now a.codes.now a.values.now a.limits.now in
-    adding-first a.boards.now a.tags.now a.n c.fewer-m.result (lay_from_to a.train q a.offsets.now a.numbers.now a.from a.to) (c.fewer-m.ensures ∙ ap (min a.n) c.room.ensures)
-
-pub overflow_add-k : goal.overflow_add-k
-overflow_add-k c = omega (arith, c.ranges.to)
+    adding-first a.all.now a.n c.min-m.result (lay_from_to a.train q a.offsets.now a.numbers.now a.from a.to) c.min-m.ensures
 
 pub loop-k-preserved : goal.loop-k-preserved
 loop-k-preserved c =
@@ -22,17 +19,15 @@ loop-k-preserved c =
     let o = c.loop-k in
     let p = c.link_point_at-p.result in
     let r = c.add_link-m in
-    adding-more o.invariant (point_lays a.train q p) (lay_from_to a.train q a.offsets.now a.numbers.now (o.k + 1) a.to) r.new.boards r.new.tags r.result
-    (lay-next a.train q a.offsets.now a.numbers.now o.k a.to c.loop-k-test.true p c.link_point_at-p.ensures) r.ensures r.auto.boards r.auto.tags
+    adding-more o.invariant (point_lays a.train q p) (lay_from_to a.train q a.offsets.now a.numbers.now (o.k + 1) a.to) r.new.all r.result
+    (lay-next a.train q a.offsets.now a.numbers.now o.k a.to c.loop-k-test.true p c.link_point_at-p.ensures) r.ensures.laid r.ensures.within r.auto.all
 
-pub shape_of-boards : goal.shape_of-boards
-shape_of-boards c = c.loop-k.invariant.long
-
-pub shape_of-tags : goal.shape_of-tags
-shape_of-tags c = c.loop-k.invariant.broad
+pub shape_of-all : goal.shape_of-all
+shape_of-all c = c.loop-k.invariant.long
 
 pub returns : goal.returns
 returns c =
     let a = c.args in
     let q = speed_sets a.sets.now a.codes.now a.values.now a.limits.now in
-    adding-last c.loop-k.invariant (lay-none a.train q a.offsets.now a.numbers.now c.loop-k.k a.to c.loop-k-test.false)
+    let g = c.loop-k.invariant in
+    record { laid = adding-last g (lay-none a.train q a.offsets.now a.numbers.now c.loop-k.k a.to c.loop-k-test.false); within = omega (arith, g.within, g.long) }

@@ -1,5 +1,4 @@
 -- `add_links`: what is left to add from link point k on gives what was to be added at first.
-use Rattle.std.proofs.Common.{◌-◌}
 use Rattle.path_speeds.specs.Limits.{speed_sets}
 use Rattle.view.specs.History.{with_more, lay_from_to}
 use Rattle.view.proofs.Laid.{Adding}
@@ -7,7 +6,4 @@ use Rattle.view.proofs.history.add_links.Given as goal
 
 abbrev pub invariant-loop-k : goal.invariant-loop-k
 invariant-loop-k l =
-    Adding l.initial.boards l.initial.tags (with_more l.initial.boards l.initial.tags l.n (lay_from_to l.train (speed_sets l.sets l.codes l.values l.limits) l.offsets l.numbers l.from l.to)) (lay_from_to l.train (speed_sets l.sets l.codes l.values l.limits) l.offsets l.numbers l.k l.to) l.boards l.tags l.m
-
-abbrev pub decreases-loop-k : goal.decreases-loop-k
-decreases-loop-k l = l.to - l.k
+    Adding l.initial.all (with_more l.initial.all l.n (lay_from_to l.train (speed_sets l.sets l.codes l.values l.limits) l.offsets l.numbers l.from l.to)) (lay_from_to l.train (speed_sets l.sets l.codes l.values l.limits) l.offsets l.numbers l.k l.to) l.all l.m

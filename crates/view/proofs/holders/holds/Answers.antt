@@ -4,4 +4,4 @@ use Rattle.view.proofs.holders.holds.Goals as goal
 
 pub returns : goal.returns
 unfolding holds
-returns c = rw (c.size.ensures, c.size-2.ensures, c.record_at-t.ensures, c.record_at-b.ensures)
+returns c = rw (c.size.ensures, c.size-2.ensures)

@@ -1,8 +1,0 @@
--- `ticks`: one tick a turn, at most 20.
-use Rattle.view.proofs.axes.ticks.Given as goal
-
-abbrev pub invariant-loop-left : goal.invariant-loop-left
-invariant-loop-left l = Unit {0}
-
-abbrev pub decreases-loop-left : goal.decreases-loop-left
-decreases-loop-left l = l.left

@@ -1,9 +1,0 @@
--- `table`: one speed point a turn.
-use Rattle.std.proofs.Common.{◌-◌}
-use Rattle.view.proofs.stretches.table.Given as goal
-
-abbrev pub invariant-loop-k : goal.invariant-loop-k
-invariant-loop-k l = Unit {0}
-
-abbrev pub decreases-loop-k : goal.decreases-loop-k
-decreases-loop-k l = l.count - l.k
