@@ -1,42 +1,46 @@
 // The rows (R136 to R153), run through the code and printed as it answers them.
 #![tactic(auto)]
 
-use column::Two;
 use lookup::calc_idx::calc_idx;
 use lookup::lin_search_hint::{Dir, Found};
 use path::link_point::LinkPoint;
 use path::path_tpc::{Answer, PathTpc};
 use path_clear::clear::clear;
-use show::{STDOUT_FILENO, count, number, say};
+use show::Whole;
 use si::{Length, Velocity};
 use speed::insert_speed::insert_speed;
 use speed::speed_limit::SpeedLimit;
+use std::{fmt, io};
 
-fn point(p: Two) {
-    say(b" (");
-    number(p.0);
-    say(b",");
-    number(p.1);
-    say(b")");
-}
+// The numbers of a column, each behind a blank.
+#[derive(Clone, Copy)]
+struct Numbers<'a>(&'a [f64]);
 
-// Point i of a column, or, where it is no column of points, entry i.
-fn entry(col: &[f64], i: usize, pairs: bool) {
-    if pairs {
-        point(column::record_at::<column::Two>(col, i));
-    } else {
-        say(b" ");
-        number(column::get(col, i));
+impl fmt::Display for Numbers<'_> {
+    fn fmt<W: fmt::Write>(&self, f: &mut fmt::Formatter<W>) -> fmt::Result {
+        for x in self.0 {
+            write!(f, " {}", Whole(*x))?;
+        }
+        Ok(())
     }
 }
 
-// The first n points, or entries, of a column.
-fn entries(col: &[f64], n: usize, pairs: bool) {
-    let mut i = 0;
-    while i < n {
-        entry(col, i, pairs);
-        i += 1;
+// The points of a column, each behind a blank.
+#[derive(Clone, Copy)]
+struct Points<'a>(&'a [f64]);
+
+impl fmt::Display for Points<'_> {
+    fn fmt<W: fmt::Write>(&self, f: &mut fmt::Formatter<W>) -> fmt::Result {
+        for p in self.0.chunks_exact(2) {
+            write!(f, " ({},{})", Whole(p[0]), Whole(p[1]))?;
+        }
+        Ok(())
     }
+}
+
+// As many records of a column, w entries each, as there are, at most n.
+fn first(col: &[f64], n: usize, w: usize) -> &[f64] {
+    col.get(..n.saturating_mul(w)).unwrap_or(col)
 }
 
 // Lays a limit on the n points of a column that has room, and zeros past them.
@@ -55,8 +59,15 @@ fn lay(col: &mut [f64], n: usize, l: SpeedLimit) -> usize {
 }
 
 // One row of the S rows; the count of points afterwards.
-fn s_row(name: &[u8], col: &mut [f64], n: usize, from: f64, to: f64, at: f64) -> usize {
-    say(name);
+fn s_row(
+    rt: &impl Print,
+    name: &str,
+    col: &mut [f64],
+    n: usize,
+    from: f64,
+    to: f64,
+    at: f64,
+) -> io::Result<usize> {
     let m = lay(
         &mut *col,
         n,
@@ -66,9 +77,8 @@ fn s_row(name: &[u8], col: &mut [f64], n: usize, from: f64, to: f64, at: f64) ->
             speed: Velocity(at),
         },
     );
-    entries(col, m, true);
-    say(b"\n");
-    m
+    println!(rt; "{name}{}", Points(first(col, m, 2)))?;
+    Ok(m)
 }
 
 // The one point (0,30).
@@ -87,44 +97,53 @@ fn two_points() -> [f64; 16] {
 }
 
 // A row that starts from (0,30),(100,20).
-fn from_two(name: &[u8], from: f64, to: f64, at: f64) {
-    let mut a = two_points();
-    s_row(name, &mut a, 2, from, to, at);
+fn from_two(rt: &impl Print, name: &str, from: f64, to: f64, at: f64) -> io::Result<usize> {
+    s_row(rt, name, &mut two_points(), 2, from, to, at)
 }
 
-fn s_rows() {
+fn s_rows(rt: &impl Print) -> io::Result<()> {
     let mut a = one_point();
-    let n = s_row(b"S1", &mut a, 1, 20.0, 40.0, 15.0);
-    s_row(b"S2", &mut a, n, 40.0, 60.0, 15.0);
-    let mut b = one_point();
-    s_row(b"S3", &mut b, 1, 0.0, 10.0, 20.0);
-    from_two(b"S4", 20.0, 40.0, 15.0);
-    from_two(b"S5", 20.0, 100.0, 15.0);
-    from_two(b"S6", 50.0, 150.0, 25.0);
-    from_two(b"S7", 50.0, 150.0, 10.0);
-    let mut c = one_point();
-    s_row(b"S8", &mut c, 1, 5.0, 9.0, -12.0);
+    let n = s_row(rt, "S1", &mut a, 1, 20.0, 40.0, 15.0)?;
+    s_row(rt, "S2", &mut a, n, 40.0, 60.0, 15.0)?;
+    s_row(rt, "S3", &mut one_point(), 1, 0.0, 10.0, 20.0)?;
+    from_two(rt, "S4", 20.0, 40.0, 15.0)?;
+    from_two(rt, "S5", 20.0, 100.0, 15.0)?;
+    from_two(rt, "S6", 50.0, 150.0, 25.0)?;
+    from_two(rt, "S7", 50.0, 150.0, 10.0)?;
+    s_row(rt, "S8", &mut one_point(), 1, 5.0, 9.0, -12.0)?;
+    Ok(())
 }
 
 // The number of a refusal; nothing for "done".
-fn refusal(a: Answer) {
-    if a.number != 0 {
-        say(b" refused with ");
-        io::print_decimal(STDOUT_FILENO, a.number as u64);
+#[derive(Clone, Copy)]
+struct Refused(Answer);
+
+impl fmt::Display for Refused {
+    fn fmt<W: fmt::Write>(&self, f: &mut fmt::Formatter<W>) -> fmt::Result {
+        if self.0.number == 0 {
+            return Ok(());
+        }
+        write!(f, " refused with {}", self.0.number)
     }
 }
 
 // The grades, curves and power limits that went.
-fn gone(d: LinkPoint) {
-    say(b"; dropped");
-    count(d.grade_count);
-    count(d.curve_count);
-    count(d.cat_power_count);
-    say(b"\n");
+#[derive(Clone, Copy)]
+struct Gone(LinkPoint);
+
+impl fmt::Display for Gone {
+    fn fmt<W: fmt::Write>(&self, f: &mut fmt::Formatter<W>) -> fmt::Result {
+        let d = self.0;
+        write!(
+            f,
+            "; dropped {} {} {}",
+            d.grade_count, d.curve_count, d.cat_power_count
+        )
+    }
 }
 
 // One row of the T rows: links 1 and 2 from 0 to 100 and from there to 250, each with one flat grade and curve record, and n speed points.
-fn t_row(name: &[u8], speeds: &mut [f64], n: usize, x: f64) {
+fn t_row(rt: &impl Print, name: &str, mut speeds: [f64; 16], n: usize, x: f64) -> io::Result<()> {
     let mut offsets: [f64; 3] = [0.0, 100.0, 250.0];
     let mut numbers: [u32; 12] = [1, 1, 0, 1, 1, 1, 0, 2, 0, 0, 0, 2];
     let mut grades: [f64; 9] = [0.0, 0.0, 0.0, 100.0, 0.0, 0.0, 250.0, 0.0, 0.0];
@@ -146,16 +165,18 @@ fn t_row(name: &[u8], speeds: &mut [f64], n: usize, x: f64) {
         &mut numbers,
         &mut grades,
         &mut curves,
-        &mut *speeds,
+        &mut speeds,
         &mut powers,
         &mut districts,
     );
-    say(name);
-    refusal(r.outcome.answer);
-    entries(speeds, r.outcome.path.speed_count, true);
-    say(b"; links");
-    entries(&offsets, r.outcome.path.link_count, false);
-    gone(r.dropped);
+    let left = r.outcome.path;
+    let points = Points(first(&speeds, left.speed_count, 2));
+    let links = Numbers(first(&offsets, left.link_count, 1));
+    println!(rt;
+        "{name}{}{points}; links{links}{}",
+        Refused(r.outcome.answer),
+        Gone(r.dropped)
+    )
 }
 
 // The points (0,30), (50,20) and (200,30).
@@ -168,52 +189,49 @@ fn three_points() -> [f64; 16] {
     a
 }
 
-fn t_rows() {
-    let mut a = three_points();
-    t_row(b"T1", &mut a, 3, 120.0);
-    let mut b = three_points();
-    t_row(b"T2", &mut b, 3, 100.0);
-    let mut c = two_points();
-    t_row(b"T3", &mut c, 2, 120.0);
-    let mut d = two_points();
-    t_row(b"T4", &mut d, 2, 251.0);
+fn t_rows(rt: &impl Print) -> io::Result<()> {
+    t_row(rt, "T1", three_points(), 3, 120.0)?;
+    t_row(rt, "T2", three_points(), 3, 100.0)?;
+    t_row(rt, "T3", two_points(), 2, 120.0)?;
+    t_row(rt, "T4", two_points(), 2, 251.0)
 }
 
 // What a lookup answers: the index, or the number of the refusal.
-fn told(f: Found) {
-    match f {
-        Found::At(i) => {
-            say(b" ");
-            io::print_decimal(STDOUT_FILENO, i as u64);
+#[derive(Clone, Copy)]
+struct Told(Found);
+
+impl fmt::Display for Told {
+    fn fmt<W: fmt::Write>(&self, f: &mut fmt::Formatter<W>) -> fmt::Result {
+        match self.0 {
+            Found::At(i) => write!(f, " {i}"),
+            Found::NotFinite => f.write_str(" refused with 1"),
+            Found::NotSound => f.write_str(" refused with 2"),
+            Found::OutOfRange => f.write_str(" refused with 10"),
+            Found::BadHint => f.write_str(" refused with 11"),
         }
-        Found::NotFinite => say(b" refused with 1"),
-        Found::NotSound => say(b" refused with 2"),
-        Found::OutOfRange => say(b" refused with 10"),
-        Found::BadHint => say(b" refused with 11"),
     }
-    say(b"\n");
 }
 
 // One row of the L rows, over records at 0, 100 and 250.
-fn l_row(name: &[u8], offset: f64, hint: usize, dir: Dir) {
-    let mut list = [0.0; 9];
-    list[3] = 100.0;
-    list[6] = 250.0;
-    say(name);
-    told(calc_idx(&list, 3, Length(offset), hint, dir));
+fn l_row(rt: &impl Print, name: &str, offset: f64, hint: usize, dir: Dir) -> io::Result<()> {
+    let list = [0.0, 0.0, 0.0, 100.0, 0.0, 0.0, 250.0, 0.0, 0.0];
+    println!(rt;
+        "{name}{}",
+        Told(calc_idx(&list, 3, Length(offset), hint, dir))
+    )
 }
 
-fn l_rows() {
-    l_row(b"L1", 100.0, 0, Dir::Fwd);
-    l_row(b"L2", 101.0, 0, Dir::Fwd);
-    l_row(b"L3", 100.0, 2, Dir::Bwd);
-    l_row(b"L4", 50.0, 1, Dir::Fwd);
-    l_row(b"L5", 100.0, 2, Dir::Fwd);
-    l_row(b"L6", 251.0, 0, Dir::Fwd);
+fn l_rows(rt: &impl Print) -> io::Result<()> {
+    l_row(rt, "L1", 100.0, 0, Dir::Fwd)?;
+    l_row(rt, "L2", 101.0, 0, Dir::Fwd)?;
+    l_row(rt, "L3", 100.0, 2, Dir::Bwd)?;
+    l_row(rt, "L4", 50.0, 1, Dir::Fwd)?;
+    l_row(rt, "L5", 100.0, 2, Dir::Fwd)?;
+    l_row(rt, "L6", 251.0, 0, Dir::Fwd)
 }
 
-fn main() {
-    s_rows();
-    t_rows();
-    l_rows();
+fn main(rt: HostRuntime) -> io::Result<()> {
+    s_rows(&rt)?;
+    t_rows(&rt)?;
+    l_rows(&rt)
 }

@@ -1,6 +1,25 @@
 // What the programs print: text, counts, whole numbers and numbers to three places behind the point.
 #![tactic(auto)]
 
+use std::fmt;
+
+// A number with its sign, what is behind the point cut off; a question mark for what is too large.
+#[derive(Clone, Copy)]
+pub struct Whole(pub f64);
+
+impl fmt::Display for Whole {
+    fn fmt<W: fmt::Write>(&self, f: &mut fmt::Formatter<W>) -> fmt::Result {
+        let size = ieee::size(self.0);
+        let sign = if ieee::is_negative(self.0) { "-" } else { "" };
+        if size < 1000000000.0 {
+            let n = std::num::truncating_f64_to_u64(size);
+            write!(f, "{sign}{n}")
+        } else {
+            write!(f, "{sign}?")
+        }
+    }
+}
+
 // The descriptors of standard input, standard output and standard error.
 pub const STDIN_FILENO: i32 = 0;
 
