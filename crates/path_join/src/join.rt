@@ -67,14 +67,7 @@ pub fn start_net(grades: &mut [f64], m: usize, list: &[u32], links: &[u32], elev
 {
     let g = coeff_at(&*grades, m - 1);
     let net = starting_net(m, g.res_net, list, links, elevs);
-    put_coeff(
-        &mut *grades,
-        m - 1,
-        PathResCoeff {
-            res_net: net,
-            ..g
-        },
-    );
+    put_coeff(&mut *grades, m - 1, PathResCoeff { res_net: net, ..g });
 }
 
 // One link point more: point n - 1 becomes that of link i, and the end point follows.

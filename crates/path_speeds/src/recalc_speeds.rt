@@ -11,8 +11,7 @@ ghost use Rattle.path_speeds.specs.Limits.{speed_sets, point_few, point_count};
 ghost use Rattle.path_speeds.specs.Recalc as spec;
 
 use crate::add_speeds::{lay_links, points_count, points_finite};
-use column::Two;
-use column::put_record;
+use column::{Two, put_record};
 use link::train_params::TrainParams;
 use path::answer::{asked, asked_each, path_answer};
 use path::finite::train_finite;
