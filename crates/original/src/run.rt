@@ -10,8 +10,9 @@ use crate::insert::insert_as_original;
 use column::Two;
 use si::{Length, Velocity};
 use speed::laid::Laid;
+use speed::speed_column::SpeedColumn;
 use speed::speed_limit::SpeedLimit;
-use speed::speed_point::{first_from, offset_at, set_offset, speed_at};
+use speed::speed_point::SpeedPoints;
 
 // One point, at x: what `new` and a recalculation begin with.
 pub fn begin(col: &mut [f64], x: Length, top: Velocity) -> usize
@@ -54,7 +55,12 @@ fn follow(col: &mut [f64], m: usize, l: Laid) -> usize
         offset_end: Length(l.end),
         speed: Velocity(l.value),
     };
-    insert_as_original(col, m, limit)
+    let mut points = SpeedColumn {
+        col: &mut *col,
+        count: m,
+    };
+    insert_as_original(&mut points, limit);
+    points.count
 }
 
 // Lays the limits in turn on the n points.
@@ -73,12 +79,16 @@ pub fn drop_before(col: &mut [f64], n: usize, x: Length) -> usize
     ensures { Leaves col.new result (spec.clear_original (spec.points_in n col.old) x.0) }
 {
     let m = points_in(&mut *col, n);
-    let from = first_from(col, m, x);
+    let from = SpeedPoints::new(&*col, m).first_from(x);
     column::move_front(&mut *col, 2 * from, 2 * m);
     if m <= from {
         return 0;
     }
-    set_offset(col, m - from, 0, x);
+    let mut rest = SpeedColumn {
+        col: &mut *col,
+        count: m - from,
+    };
+    rest.set_offset(0, x);
     m - from
 }
 
@@ -90,9 +100,10 @@ pub fn posted_by_original(col: &[f64], n: usize, x: Length) -> Velocity
     if col.len() / 2 < n {
         return v;
     }
+    let points = SpeedPoints::new(col, n);
     for i in 0..n {
-        if offset_at(col, n, i).0 <= x.0 {
-            v = speed_at(col, n, i);
+        if points.offset_at(i).0 <= x.0 {
+            v = points.speed_at(i);
         }
     }
     v

@@ -6,7 +6,7 @@ ghost use Rattle.path_posted.specs.Posted as spec;
 use path::answer::{asked, path_answer};
 use path::path_tpc::{Answer, PathTpc};
 use si::{Length, Velocity};
-use speed::posted::posted_at;
+use speed::speed_point::SpeedPoints;
 
 // An answer, and the speed that goes with it.
 #[repr(C)]
@@ -63,6 +63,6 @@ pub fn posted_speed(
             speed: Velocity(0.0),
         };
     }
-    let speed = posted_at(speeds, p.speed_count, x);
+    let speed = SpeedPoints::new(speeds, p.speed_count).posted_at(x);
     PostedAnswer { answer, speed }
 }

@@ -36,6 +36,10 @@ repeats-none i w ps e = rw e
 pub repeats-some : (i : ℕ) (w : Float) (ps : List Point) → (i ≡ 0 → ⊥) → Ieee.eq (speed_at ps (i - 1)) w ≡ repeats i w ps
 repeats-some i w ps h = let p : 0 < i = omega arith in rw (lt-ltb 0 i p)
 
+pub repeats-after : (i : ℕ) (w : Float) (ps : List Point) → repeats i w ps ≡ true → 0 < i
+repeats-after zero w ps t = absurd (false≢true t)
+repeats-after (suc i) w ps t = omega arith
+
 -- ---- the searches
 
 module _ (s : Float) (ps : List Point) (i : ℕ) where
@@ -96,16 +100,17 @@ pub merge-next : (v : Float) (k i : ℕ) (ps : List Point) → merge v (suc k) i
 unfolding merge
 merge-next v k i ps = refl
 
-module _ (v : Float) (a b : ℕ) (ps : List Point) where
-  pub merge-done : b ≤ a → merge v (b - a) a ps ≡ drop_repeat a ps
+-- of the turns from the first up to j, those from k on are left
+module _ (v : Float) (j k a : ℕ) (ps : List Point) where
+  pub merge-done : j ≤ k → merge v (j - k) a ps ≡ drop_repeat a ps
   unfolding merge
-  merge-done h = let e : b - a ≡ 0 = omega arith in rw e
+  merge-done h = let e : j - k ≡ 0 = omega arith in rw e
 
-  pub merge-removed : a < b → repeats a (min_speed (speed_at ps a) v) ps ≡ true → merge v (b - a) a ps ≡ merge v (b - 1 - a) a (remove_at a ps)
-  merge-removed h t = let e : b - a ≡ suc (b - 1 - a) = omega arith in ap (λ (k : ℕ). merge v k a ps) e ∙ merge-next v (b - 1 - a) a ps ∙ rw t
+  pub merge-removed : k < j → repeats a (min_speed (speed_at ps a) v) ps ≡ true → merge v (j - k) a ps ≡ merge v (j - (k + 1)) a (remove_at a ps)
+  merge-removed h t = let e : j - k ≡ suc (j - (k + 1)) = omega arith in ap (λ (k : ℕ). merge v k a ps) e ∙ merge-next v (j - (k + 1)) a ps ∙ rw t
 
-  pub merge-stored : a < b → repeats a (min_speed (speed_at ps a) v) ps ≡ false → merge v (b - a) a ps ≡ merge v (b - (a + 1)) (a + 1) (set_speed a (min_speed (speed_at ps a) v) ps)
-  merge-stored h t = let e : b - a ≡ suc (b - (a + 1)) = omega arith in ap (λ (k : ℕ). merge v k a ps) e ∙ merge-next v (b - (a + 1)) a ps ∙ rw (t, add-one a)
+  pub merge-stored : k < j → repeats a (min_speed (speed_at ps a) v) ps ≡ false → merge v (j - k) a ps ≡ merge v (j - (k + 1)) (a + 1) (set_speed a (min_speed (speed_at ps a) v) ps)
+  merge-stored h t = let e : j - k ≡ suc (j - (k + 1)) = omega arith in ap (λ (k : ℕ). merge v k a ps) e ∙ merge-next v (j - (k + 1)) a ps ∙ rw (t, add-one a)
 
 -- ---- the limit's ends
 

@@ -14,7 +14,9 @@ use Rattle.column.proofs.Filling.{get_d-within, length-filled, zeros-filled}
 use Rattle.column.proofs.ByEntry.{two-entries, two-put}
 use Rattle.column.proofs.Bridge.{Lawful, length-records, length-flat, records-flat, record-at, put-filled, push-filled, insert-filled, insert-two, remove-filled, zero-filled, move-filled}
 use Rattle.speed.specs.Points.{Point, point, nowhere, offset_at, speed_at, set_speed, set_offset}
+use Rattle.speed.specs.declared.speed_column.SpeedColumn.{SpeedColumn}
 use Rattle.speed.specs.Column.{pair, points, Holds, Leaves}
+use Rattle.speed.specs.Becomes.{points_of, Becomes}
 use Rattle.speed.proofs.InsertSteps.{length_inserted, length_removed}
 
 pub pair-lawful : Lawful pair
@@ -27,6 +29,10 @@ pair-lawful = record { length-pack = λ p. refl; unpack-pack = λ p l. refl; pac
 
 pub length-points : (n : ℕ) (c : List Float) → length (points n c) ≡ n
 length-points n c = length-records pair pair-lawful n c
+
+-- a list that is the first n points of a column has n points
+pub count-of : (n : ℕ) (c : List Float) (ps : List Point) → points n c ≡ ps → n ≡ length ps
+count-of n c ps e = sym (length-points n c) ∙ ap length e
 
 -- ---- reads
 
@@ -165,3 +171,27 @@ next-moved c d n j g room e = next-held d (drop j (points n c)) (n - j) (rw e (m
 
 pub next-zeroed : (c d : List Float) (n : ℕ) → 2 * n ≤ length c → d ≡ zero_from +0 (2 * n) c → (points n d ≡ points n c) × Holds d (points n d)
 next-zeroed c d n room e = next-held d (points n c) n (rw e (zeroed c n room)) (sym (length-points n c))
+
+pub next-two : (c d : List Float) (n i : ℕ) (p q : Point) → Holds d (insert_at i p (insert_at i q (points n c)))
+    → (points (n + 2) d ≡ insert_at i p (insert_at i q (points n c))) × Holds d (points (n + 2) d)
+next-two c d n i p q h =
+    let ps = insert_at i q (points n c) in
+    next-held d (insert_at i p ps) (n + 2) h (omega (arith, length_inserted i p ps, length_inserted i q (points n c), length-points n c))
+
+-- a lent column leaves the points that it holds
+pub leaves-of : (d : SpeedColumn) (ps : List Point) → points_of d ≡ ps → Leaves d.col.now d.count ps
+leaves-of d ps e = record { count = count-of d.count d.col.now ps e; holds = subst (Holds d.col.now) e d.holds }
+
+-- ---- one change after another
+
+pub unchanged : (c : SpeedColumn) (ps : List Point) → points_of c ≡ ps → Becomes c c ps
+unchanged c ps e = record { same = refl; long = refl; holds = e }
+
+pub becomes-as : {c d : SpeedColumn} {qs : List Point} (ps : List Point) → Becomes c d qs → qs ≡ ps → Becomes c d ps
+becomes-as {c} {d} {qs} ps h e = subst (Becomes c d) e h
+
+pub becomes-next : (f : List Point → List Point) {b c d : SpeedColumn} {qs : List Point} → Becomes b c qs → Becomes c d (f (points_of c)) → Becomes b d (f qs)
+becomes-next f {b} {c} {d} {qs} g h = record { same = h.same ∙ g.same; long = h.long ∙ g.long; holds = h.holds ∙ ap f g.holds }
+
+pub becomes-on : {b c d : SpeedColumn} {qs ps : List Point} → Becomes b c qs → Becomes c d ps → Becomes b d (points_of d)
+becomes-on g h = record { same = h.same ∙ g.same; long = h.long ∙ g.long; holds = refl }

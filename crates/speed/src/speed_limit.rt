@@ -12,7 +12,7 @@ pub struct SpeedLimit {
     pub speed: Velocity,
 }
 
-// b where it is below a, otherwise a.
+// b where it is below a, otherwise a; f64::min would answer b for an a that is no number.
 pub fn lesser(a: f64, b: f64) -> f64
     ensures { result ≡ smaller a b }
 {
@@ -25,10 +25,7 @@ pub fn min_speed(speed_old: Velocity, speed_new: Velocity) -> Velocity
 {
     let a = speed_old.0;
     let b = speed_new.0;
-    if ieee::is_negative(a) {
-        return Velocity(-lesser(ieee::size(a), ieee::size(b)));
-    }
-    if ieee::is_negative(b) {
+    if ieee::is_negative(a) | ieee::is_negative(b) {
         return Velocity(-lesser(ieee::size(a), ieee::size(b)));
     }
     Velocity(lesser(a, b))

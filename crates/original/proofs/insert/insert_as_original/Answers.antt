@@ -2,36 +2,42 @@
 use Prim.Native.Nat.{ℕ}
 use native.Mathlib.Omega.{arith}
 use mathlib.Core.Path.{sym, ap, ◌∙◌}
-use Rattle.speed.specs.Column.{points}
-use Rattle.speed.specs.Insert.{insert_speed}
-use Rattle.speed.proofs.PointColumn.{length-points, leaves_at}
-use Rattle.original.specs.Original.{not_released, insert_original}
+use Rattle.speed.specs.Becomes.{points_of}
+use Rattle.speed.specs.Insert.{first_from}
+use Rattle.speed.proofs.PointColumn.{length-points, becomes-as}
+use Rattle.original.specs.Original.{not_released, strictly_between}
 use Rattle.original.proofs.Inserted.{found_inside, as-original, as-port}
 use Rattle.original.proofs.insert.insert_as_original.Goals as goal
+
+pub strictly_between-between-requires : goal.strictly_between-between-requires
+strictly_between-between-requires c = omega (arith, c.args.col.now.some, c.points.ensures.count)
 
 pub not_released-requires : goal.not_released-requires
 not_released-requires c =
     let a = c.args in
-    let inside = found_inside a.l.offset_start.0 a.l.offset_end.0 (points a.n a.col.now) a.n (length-points a.n a.col.now) c.requires.n_nonzero (sym c.strictly_between.ensures ∙ c.if-strictly_between.true) in record { i_nonzero = omega (arith, inside.0, c.first_from-i.ensures); i_lt_n = omega (arith, inside.1, c.first_from-i.ensures); n_in_bounds = omega arith; holds = c.requires.holds }
+    let d = a.col.now in
+    let s = a.l.offset_start.0 in
+    let e = a.l.offset_end.0 in
+    let tested = c.strictly_between-between.ensures ∙ ap (strictly_between s e) c.points.ensures.are in
+    let first = c.first_from-i.ensures ∙ ap (first_from s) c.points-then-between.ensures.are in
+    let inside = found_inside s e (points_of d) d.count (length-points d.count d.col.now) d.some (sym tested ∙ c.if-between.true) in
+    record { i_nonzero = omega (arith, inside.0, first); i_lt_count = omega (arith, inside.1, first); room = omega (arith, c.requires) }
 
-pub returns-then-strictly_between : goal.returns-then-strictly_between
-returns-then-strictly_between c =
+pub returns-then-between : goal.returns-then-between
+returns-then-between c =
     let a = c.args in
-    let ps = points a.n a.col.now in
+    let ps = points_of a.col.now in
     let s = a.l.offset_start.0 in
     let e = a.l.offset_end.0 in
     let v = a.l.speed.0 in
-    leaves_at c.not_released.new.col c.not_released.result (not_released s v c.first_from-i.result ps) (insert_original ps s e v)
-    c.not_released.ensures
-    (ap (λ (i : ℕ). not_released s v i ps) c.first_from-i.ensures ∙ sym (as-original s e v ps (sym c.strictly_between.ensures ∙ c.if-strictly_between.true)))
+    let tested = c.strictly_between-between.ensures ∙ ap (strictly_between s e) c.points.ensures.are in
+    let first = c.first_from-i.ensures ∙ ap (first_from s) c.points-then-between.ensures.are in
+    becomes-as _ c.not_released.ensures (ap (λ (i : ℕ). not_released s v i ps) first ∙ sym (as-original s e v ps (sym tested ∙ c.if-between.true)))
 
-pub returns : goal.returns
-returns c =
+pub returns-else-between : goal.returns-else-between
+returns-else-between c =
     let a = c.args in
-    let ps = points a.n a.col.now in
     let s = a.l.offset_start.0 in
     let e = a.l.offset_end.0 in
-    let v = a.l.speed.0 in
-    leaves_at c.insert_speed.new.col c.insert_speed.result (insert_speed ps s e v) (insert_original ps s e v)
-    c.insert_speed.ensures
-    (sym (as-port s e v ps (sym c.strictly_between.ensures ∙ c.if-strictly_between.false)))
+    let tested = c.strictly_between-between.ensures ∙ ap (strictly_between s e) c.points.ensures.are in
+    becomes-as _ c.insert_speed.ensures (sym (as-port s e a.l.speed.0 (points_of a.col.now) (sym tested ∙ c.if-between.false)))

@@ -3,8 +3,9 @@ use mathlib.Core.Path.{sym, ◌∙◌}
 use mathlib.Core.List.{[]}
 use native.Mathlib.Omega.{arith}
 use lib.ListN.{length}
+use Rattle.std.proofs.Common.{rules}
 use Rattle.speed.specs.Column.{points}
-use Rattle.speed.proofs.PointColumn.{length-points, fits-points, leaves_at}
+use Rattle.speed.proofs.PointColumn.{length-points, fits-points, leaves_at, leaves-of}
 use Rattle.original.proofs.Followed.{none-held, none_kept, follow-none, follow-full, follow_one}
 use Rattle.original.proofs.run.follow.Goals as goal
 
@@ -26,13 +27,17 @@ returns-then-col-m c =
     leaves_at c.zero_from.new.col 0 [] _ (none-held a.col.now c.zero_from.new.col c.zero_from.ensures)
     (sym (follow-full (length a.col.now) ps _ _ _ (omega arith) (omega arith)))
 
+pub invariant_of-points : goal.invariant_of-points
+invariant_of-points c = record { some = omega arith; holds = c.requires }
+
 pub insert_as_original-requires : goal.insert_as_original-requires
-insert_as_original-requires c = record { n_nonzero = omega arith; n_in_bounds = omega arith; holds = c.requires }
+insert_as_original-requires c = omega arith
 
 pub returns : goal.returns
 returns c =
     let a = c.args in
     let ps = points a.m a.col.now in
     let l = length-points a.m a.col.now in
-    leaves_at c.insert_as_original.new.col c.insert_as_original.result _ _ c.insert_as_original.ensures
-    (sym (follow_one (length a.col.now) ps _ _ _ (omega arith) (omega arith)))
+    let left = leaves-of c.insert_as_original.new.col _ (c.insert_as_original.ensures.holds ∙ sym (follow_one (length a.col.now) ps _ _ _ (omega arith) (omega arith))) in
+    let same = c.insert_as_original.ensures.same in
+    search rules
