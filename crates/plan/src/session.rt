@@ -21,7 +21,7 @@ use route::text::next_line;
 use route_reads::reads::{Straps, fixed, list_powers, no_straps, read_line, resistance_line};
 use show::{To, put, put_count, put_real};
 use si::{Length, Velocity};
-use view::history::{History, add_links, nothing_joined};
+use view::history::{History, add_links};
 use view::picture::picture;
 use view::profile::{add_borders, add_heights};
 use view::stretches::{Posted, table};
@@ -58,7 +58,7 @@ fn start() -> Session {
     };
     Session {
         path,
-        history: nothing_joined(),
+        history: History::default(),
         straps: no_straps(),
         course: no_course(),
         line: 0,
@@ -204,7 +204,7 @@ fn joined(
         return h;
     }
     if kind == NEW {
-        return nothing_joined();
+        return History::default();
     }
     if (kind != EXTEND) & (kind != RECALCULATE) {
         return h;

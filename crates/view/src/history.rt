@@ -15,19 +15,11 @@ use speed::laid::Laid;
 use speed::speed_limit::SpeedLimit;
 
 // How many limits, link borders and heights there are.
-#[derive(Clone, Copy)]
+#[derive(Clone, Copy, Default)]
 pub struct History {
     pub limits: usize,
     pub borders: usize,
     pub heights: usize,
-}
-
-pub fn nothing_joined() -> History {
-    History {
-        limits: 0,
-        borders: 0,
-        heights: 0,
-    }
 }
 
 // A record behind the first n, where there is room for it; how many there are then.

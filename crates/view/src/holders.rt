@@ -14,6 +14,7 @@ pub enum Held {
 }
 
 // Whether a limit covers x, its tail counted in, and has the size of v.
+#[tactic(auto, unfolding(crate::specs::Holders::holds))]
 fn holds(l: Laid, x: f64, v: f64) -> bool
     ensures { result ≡ spec.holds x v l }
 {
@@ -37,6 +38,7 @@ pub fn held_by(limits: &[Laid], x: f64, v: f64, top: Velocity) -> Option<Held>
 }
 
 // The start of a limit with the size of v where it is behind x and before `to`, otherwise `to`.
+#[tactic(auto, unfolding(crate::specs::Holders::sooner))]
 fn sooner(l: Laid, x: f64, to: f64, v: f64) -> f64
     ensures { result ≡ spec.sooner x v to l }
 {
@@ -80,6 +82,7 @@ pub fn piece_end(limits: &[Laid], x: f64, to: f64, v: f64, held: Option<Held>) -
 }
 
 // Whether a limit covers x, its tail counted in, with a size below that of v.
+#[tactic(auto, unfolding(crate::specs::Holders::below))]
 fn below(l: Laid, x: f64, v: f64) -> bool
     ensures { result ≡ spec.below x v l }
 {

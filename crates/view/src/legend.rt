@@ -35,29 +35,32 @@ pub fn title(name: &[u8], train: TrainParams) {
     say(b" km/h)</text>\n");
 }
 
-// A sample of a line, and what it is.
-fn line_sample(class: &[u8], x: f64, words: &[u8]) {
-    say(b"<path class=\"");
-    say(class);
-    say(b"\" d=\"");
-    point(b"M", x, 57.0);
-    toward(b"H", x + 24.0);
-    say(b"\"/>\n");
-    text(b"start", x + 30.0, 61.0);
-    say(words);
-    say(b"</text>\n");
+// What a sample shows.
+#[derive(Clone, Copy)]
+enum Shape {
+    Line,
+    Shade,
 }
 
-// A sample of a shade, and what it is.
-fn shade_sample(class: &[u8], x: f64, words: &[u8]) {
+// A sample of a line or a shade, and what it is.
+fn sample(shape: Shape, class: &[u8], x: f64, words: &[u8]) {
     say(b"<path class=\"");
     say(class);
     say(b"\" d=\"");
-    point(b"M", x, 51.0);
-    toward(b"H", x + 24.0);
-    say(b"V63");
-    toward(b"H", x);
-    say(b"Z\"/>\n");
+    match shape {
+        Shape::Line => {
+            point(b"M", x, 57.0);
+            toward(b"H", x + 24.0);
+        }
+        Shape::Shade => {
+            point(b"M", x, 51.0);
+            toward(b"H", x + 24.0);
+            say(b"V63");
+            toward(b"H", x);
+            say(b"Z");
+        }
+    }
+    say(b"\"/>\n");
     text(b"start", x + 30.0, 61.0);
     say(words);
     say(b"</text>\n");
@@ -65,16 +68,16 @@ fn shade_sample(class: &[u8], x: f64, words: &[u8]) {
 
 // The legend: dropped links and heights only where the picture has them.
 pub fn legend(f: Frame) {
-    line_sample(b"posted", 60.0, b"posted speed");
-    shade_sample(b"board", 200.0, b"above a limit");
-    shade_sample(b"tail", 340.0, b"in its tail");
-    line_sample(b"border", 460.0, b"link border");
+    sample(Shape::Line, b"posted", 60.0, b"posted speed");
+    sample(Shape::Shade, b"board", 200.0, b"above a limit");
+    sample(Shape::Shade, b"tail", 340.0, b"in its tail");
+    sample(Shape::Line, b"border", 460.0, b"link border");
     let mut x = 590.0;
     if f.heights.is_some() {
-        line_sample(b"height", x, b"height");
+        sample(Shape::Line, b"height", x, b"height");
         x = 690.0;
     }
     if 0.0 < f.begin {
-        shade_sample(b"dropped", x, b"dropped links");
+        sample(Shape::Shade, b"dropped", x, b"dropped links");
     }
 }
