@@ -2,8 +2,8 @@
 use crate::beside::{Course, course_behind, no_course, side_by_side};
 use crate::changes::{Step, change, cut_list, list_of};
 use crate::columns::{
-    Borders, Curves, Districts, Grades, Heights, Limits, Numbers, Offsets, Original, Powers, Speeds,
-    cut, part,
+    Borders, Curves, Districts, Grades, Heights, Limits, Numbers, Offsets, Original, Powers,
+    Speeds, cut, part,
 };
 use crate::progress::{Clock, cleared, progress};
 use link::train_params::TrainParams;
@@ -211,16 +211,7 @@ fn joined(
     }
     let anew = laid_by(kind, h, before, p);
     let n = add_links(
-        offsets,
-        numbers,
-        anew.from,
-        anew.to,
-        sets,
-        codes,
-        values,
-        limits,
-        train,
-        &mut *laid,
+        offsets, numbers, anew.from, anew.to, sets, codes, values, limits, train, &mut *laid,
         anew.held,
     );
     if kind == RECALCULATE {
@@ -538,16 +529,7 @@ fn changed(
         &mut *borders,
         &mut *heights,
     );
-    let course = followed(
-        kind,
-        s,
-        step,
-        h,
-        train,
-        &*offsets,
-        &*laid,
-        &mut *original,
-    );
+    let course = followed(kind, s, step, h, train, &*offsets, &*laid, &mut *original);
     recalculated(to, name, kind, s, step);
     overfull(to, name, s, h, &*laid);
     let before = s.path;

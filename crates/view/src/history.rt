@@ -77,7 +77,13 @@ fn add_limits(
 }
 
 // The set that the limits of link i come from; none where it has more than 64 conditions or they do not hold.
-fn applying(sets: &[u32], codes: &[u32], values: &[f64], i: u32, train: TrainParams) -> Option<SpeedSet>
+fn applying(
+    sets: &[u32],
+    codes: &[u32],
+    values: &[f64],
+    i: u32,
+    train: TrainParams,
+) -> Option<SpeedSet>
     ensures { result ≡ spec.set_taken train sets.now codes.now values.now i }
 {
     let number = i as usize;

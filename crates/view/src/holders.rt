@@ -104,7 +104,11 @@ fn speed_or(v: f64, found: Option<Laid>) -> f64
 fn lower(found: Option<Laid>, l: Laid, x: f64, v: f64) -> Option<Laid>
     ensures { result ≡ spec.lower x v found l }
 {
-    if below(l, x, speed_or(v, found)) { Some(l) } else { found }
+    if below(l, x, speed_or(v, found)) {
+        Some(l)
+    } else {
+        found
+    }
 }
 
 // Of the limits the first with the smallest size among those that cover x with a size below that of v; none where none does.
