@@ -1,7 +1,7 @@
 -- `add_links`: what is left to add from link point k on gives what was to be added at first.
 use Rattle.std.proofs.Common.{◌+◌, arith}
 use Rattle.path_speeds.specs.Limits.{speed_sets}
-use Rattle.view.specs.History.{point_lays, lay_from_to}
+use Rattle.view.specs.History.{with_more, point_lays, lay_from_to}
 use Rattle.view.proofs.Laid.{adding-first, adding-more, adding-last}
 use Rattle.view.proofs.Lays.{lay-next, lay-none}
 use Rattle.view.proofs.history.add_links.Goals as goal
@@ -19,7 +19,7 @@ loop-k-preserved c =
     let o = c.loop-k in
     let p = c.link_point_at-p.result in
     let r = c.add_link-m in
-    adding-more o.invariant (point_lays a.train q p) (lay_from_to a.train q a.offsets.now a.numbers.now (o.k + 1) a.to) r.new.all r.result
+    adding-more {goal = with_more a.all.now a.n (lay_from_to a.train q a.offsets.now a.numbers.now a.from a.to)} o.invariant (point_lays a.train q p) (lay_from_to a.train q a.offsets.now a.numbers.now (o.k + 1) a.to) r.new.all r.result
     (lay-next a.train q a.offsets.now a.numbers.now o.k a.to c.loop-k-test.true p c.link_point_at-p.ensures) r.ensures.laid r.ensures.within r.auto.all
 
 pub shape_of-all : goal.shape_of-all
