@@ -69,32 +69,6 @@ unfolding last_not_after
 backward-first at x zero h = refl
 backward-first at x (suc i) h = absurd (not-suc-le-zero h)
 
--- ---- questions 10 and 11, and the index, of n records
-module _ (x : Float) (hint n : ℕ) (rs : List PathResCoeff) (size : length rs ≡ n) where
-  pub forward-found : Ieee.le x (offset_at rs (n - 1)) ≡ true → suc hint < n → find_in Fwd x hint rs ≡ done_at (forwards x hint rs)
-  unfolding find_in in_range hint_allowed searched
-  forward-found t h = rw (size, t, lt-ltb (suc hint) n h)
-
-  pub forward-hint : Ieee.le x (offset_at rs (n - 1)) ≡ true → n ≤ suc hint → find_in Fwd x hint rs ≡ refused 11
-  unfolding find_in in_range hint_allowed
-  forward-hint t h = rw (size, t, le-ltb (suc hint) n h)
-
-  pub forward-range : Ieee.le x (offset_at rs (n - 1)) ≡ false → find_in Fwd x hint rs ≡ refused 10
-  unfolding find_in in_range
-  forward-range t = rw (size, t)
-
-  pub backward-found : Ieee.le (offset_at rs 0) x ≡ true → hint < n → find_in Bwd x hint rs ≡ done_at (backwards x hint rs)
-  unfolding find_in in_range hint_allowed searched
-  backward-found t h = rw (size, t, lt-ltb hint n h)
-
-  pub backward-hint : Ieee.le (offset_at rs 0) x ≡ true → n ≤ hint → find_in Bwd x hint rs ≡ refused 11
-  unfolding find_in in_range hint_allowed
-  backward-hint t h = rw (size, t, le-ltb hint n h)
-
-  pub backward-range : Ieee.le (offset_at rs 0) x ≡ false → find_in Bwd x hint rs ≡ refused 10
-  unfolding find_in in_range
-  backward-range t = rw t
-
 -- Unk searches as Fwd
 pub unknown-forward : (x : Float) (hint : ℕ) (rs : List PathResCoeff) → find_in Fwd x hint rs ≡ find_in Unk x hint rs
 unfolding find_in in_range hint_allowed searched
@@ -102,39 +76,9 @@ unknown-forward x hint rs = refl
 
 -- ---- question 2 of a list searched alone
 module _ (n : ℕ) (c : List Float) where
-  pub sound_none : n ≡ 0 → list_sound n c ≡ false
-  unfolding list_sound
-  sound_none e = rw (lt-leb 1 n (omega arith))
-
-  pub sound-short : 0 < n → length c < 3 * n → list_sound n c ≡ false
-  unfolding list_sound
-  sound-short h g = rw (le-leb 1 n h, lt-leb (3 * n) (length c) g)
-
-  pub sound-held : 0 < n → 3 * n ≤ length c → list_sound n c ≡ true
-  unfolding list_sound
-  sound-held h g = rw (le-leb 1 n h, le-leb (3 * n) (length c) g)
-
   -- what a yes says
   pub sound-known : list_sound n c ≡ true → (0 < n) × (3 * n ≤ length c)
   unfolding list_sound
   sound-known t =
       let both = (and-eq-true_iff (leb 1 n) (leb (3 * n) (length c))).0 t in
       (leb-true 1 n both.0, leb-true (3 * n) (length c) both.1)
-
--- ---- the public call, question by question
-module _ (dir : Dir) (x : Float) (hint n : ℕ) (c : List Float) where
-  pub asks-offset : finite x ≡ false → calc_idx dir x hint n c ≡ refused 1
-  unfolding calc_idx
-  asks-offset t = rw t
-
-  pub asks-numbers : finite x ≡ true → coeffs_finite true n c ≡ false → calc_idx dir x hint n c ≡ refused 1
-  unfolding calc_idx
-  asks-numbers t u = rw (t, u)
-
-  pub asks-sound : finite x ≡ true → coeffs_finite true n c ≡ true → list_sound n c ≡ false → calc_idx dir x hint n c ≡ refused 2
-  unfolding calc_idx
-  asks-sound t u h = rw (t, u, h)
-
-  pub asks-search : finite x ≡ true → coeffs_finite true n c ≡ true → list_sound n c ≡ true → calc_idx dir x hint n c ≡ find_in dir x hint (coeffs n c)
-  unfolding calc_idx
-  asks-search t u h = rw (t, u, h)

@@ -1,9 +1,9 @@
 -- `calc_idx` on a list searched alone, R62: questions 1, 2, 10 and 11 (R123), and what each case of the answer says. Definitions only.
-use Rattle.std.specs.Prelude.{ℕ, ◌*◌, Bool, ◌&&◌, cond, List, leb, length, Float, true}
+use Rattle.std.specs.Prelude.{ℕ, ◌*◌, Bool, ◌&&◌, cond, List, leb, length, Float, true, Result, Ok, Err}
 use Rattle.std.specs.Float.Ieee.Scale.{finite}
+use Rattle.answer.specs.declared.Refusal.{Refusal}
+use Rattle.answer.specs.Answers.{number}
 use Rattle.lookup.specs.declared.lin_search_hint.Dir.{Dir}
-use Rattle.lookup.specs.declared.lin_search_hint.Found.{Found}
-use Rattle.lookup.specs.declared.lin_search_hint.Found.TheVariants.{At, NotFinite, NotSound, OutOfRange, BadHint}
 use Rattle.lookup.specs.declared.path_res_coeff.PathResCoeff.{PathResCoeff}
 use Rattle.lookup.specs.Coeff.{coeffs, coeffs_finite}
 use Rattle.lookup.specs.Search.{searched, in_range, hint_allowed}
@@ -20,13 +20,10 @@ done_at i = record { number = 0; place = 0; index = i }
 abbrev pub refused : ℕ → Indexed
 refused question = record { number = question; place = 0; index = 0 }
 
--- number, place and index of each case of the enum
-abbrev pub indexed : Found → Indexed
-indexed (At i) = done_at i
-indexed NotFinite = refused 1
-indexed NotSound = refused 2
-indexed OutOfRange = refused 10
-indexed BadHint = refused 11
+-- number, place and index of a result
+abbrev pub indexed : Result ℕ Refusal → Indexed
+indexed (Ok i) = done_at i
+indexed (Err e) = record { number = number e.question; place = e.place; index = 0 }
 
 -- a search in records that are known to be sound: questions 10 and 11, and then the index
 unfoldable pub find_in : Dir → Float → ℕ → List PathResCoeff → Indexed

@@ -1,7 +1,7 @@
 // A grade or curve record: offset, coefficient, and the net value at the offset.
 ghost use Rattle.std.specs.Prelude.{◌≡◌, ◌*◌, ◌≤◌, ◌<◌, length};
 ghost use Rattle.column.specs.Records.{record_at, put_record};
-ghost use Rattle.lookup.specs.Coeff.{triple, coeffs, coeff_at, offset_at, res_val, closes_well, coeffs_finite};
+ghost use Rattle.lookup.specs.Coeff.{res_coeff_record, triple, coeffs, coeff_at, offset_at, res_val, closes_well, coeffs_finite};
 
 use column::Three;
 use si::{Length, Ratio};
@@ -13,23 +13,33 @@ pub struct PathResCoeff {
     pub res_net: Length,
 }
 
-// The value at an offset: net + coefficient * (offset - the record's own).
-pub fn calc_res_val(g: PathResCoeff, offset: Length) -> Length
-    ensures { result.0 ≡ res_val g offset.0 }
-{
-    Length(g.res_net.0 + g.res_coeff.0 * (offset.0 - g.offset.0))
+impl PathResCoeff {
+    // The value at an offset: net + coefficient * (offset - the record's own).
+    pub fn calc_res_val(self, offset: Length) -> Length
+        ensures { result.0 ≡ res_val self offset.0 }
+    {
+        Length(self.res_net.0 + self.res_coeff.0 * (offset.0 - self.offset.0))
+    }
+}
+
+// Three entries of a column as a record.
+impl From<Three> for PathResCoeff {
+    ghost from_gives = { λ t g. g ≡ res_coeff_record t.0 t.1 t.2 };
+
+    fn from(t: Three) -> PathResCoeff {
+        PathResCoeff {
+            offset: Length(t.0),
+            res_coeff: Ratio(t.1),
+            res_net: Length(t.2),
+        }
+    }
 }
 
 // Record i of a column; zeros for what lies past its end.
 pub fn coeff_at(col: &[f64], i: usize) -> PathResCoeff
     ensures { result ≡ record_at triple col.now i }
 {
-    let t = column::record_at::<column::Three>(col, i);
-    PathResCoeff {
-        offset: Length(t.0),
-        res_coeff: Ratio(t.1),
-        res_net: Length(t.2),
-    }
+    PathResCoeff::from(column::record_at::<Three>(col, i))
 }
 
 // Record i of n that the column holds.
@@ -39,11 +49,7 @@ pub fn coeff_in(col: &[f64], n: usize, i: usize) -> PathResCoeff
     ensures { result ≡ coeff_at (coeffs n col.now) i }
 {
     let k = 3 * i;
-    PathResCoeff {
-        offset: Length(col[k]),
-        res_coeff: Ratio(col[k + 1]),
-        res_net: Length(col[k + 2]),
-    }
+    PathResCoeff::from(Three(col[k], col[k + 1], col[k + 2]))
 }
 
 // Stores record i.
@@ -66,13 +72,7 @@ pub fn offset_at(col: &[f64], n: usize, i: usize) -> Length
 fn closes_well(o: f64, closes: bool) -> bool
     ensures { result ≡ closes_well closes o }
 {
-    if ieee::is_finite(o) {
-        return true;
-    }
-    if closes {
-        return o == 1.0 / 0.0;
-    }
-    false
+    ieee::is_finite(o) || (closes && o == f64::INFINITY)
 }
 
 // Question 1 of n records: every number is finite, the last offset excepted where the list may close at +infinity.
@@ -82,15 +82,11 @@ pub fn coeffs_finite(col: &[f64], n: usize, closes: bool) -> bool
     if n == 0 {
         return true;
     }
-    let m = n - 1;
-    if col.len() <= m {
-        return column::all_finite(col, col.len());
-    }
-    let k = 3 * m;
-    if col.len() <= k {
-        return column::all_finite(col, k);
-    }
+    let k = (n - 1).saturating_mul(3);
     let before = column::all_finite(col, k);
+    if col.len() <= k {
+        return before;
+    }
     let last = closes_well(col[k], closes);
     let rest = ieee::is_finite(column::get(col, k + 1))
         & ieee::is_finite(column::get(col, k + 2));

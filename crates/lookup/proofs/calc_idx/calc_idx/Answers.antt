@@ -1,30 +1,25 @@
 -- `calc_idx`: question by question.
-use mathlib.Core.Path.{sym, ◌∙◌}
-use Rattle.lookup.proofs.SearchSteps.{asks-offset, asks-numbers, asks-sound, asks-search, sound-known}
+use native.Mathlib.Omega.{arith}
+use Rattle.std.proofs.lemmas.Grind.{common_steps}
+use Rattle.std.proofs.lemmas.Bool.Decides.{nat_tests}
+use Rattle.lookup.specs.CalcIdx.{calc_idx}
+use Rattle.lookup.proofs.SearchSteps.{sound-known}
 use Rattle.lookup.proofs.calc_idx.calc_idx.Goals as goal
 
-pub returns-then-not-is_finite : goal.returns-then-not-is_finite
-returns-then-not-is_finite c = sym (asks-offset c.args.dir c.args.offset.0 c.args.hint c.args.n c.args.col.now (sym c.is_finite.ensures ∙ c.if-not-is_finite.true))
+pub returns-in_err-ask : goal.returns-in_err-ask
+unfolding calc_idx
+returns-in_err-ask c = grind (arith, nat_tests, common_steps)
 
-pub returns-then-not-coeffs_finite : goal.returns-then-not-coeffs_finite
-returns-then-not-coeffs_finite c =
-    let f = sym c.is_finite.ensures ∙ c.if-not-is_finite.false in
-    sym (asks-numbers c.args.dir c.args.offset.0 c.args.hint c.args.n c.args.col.now f (sym c.coeffs_finite.ensures ∙ c.if-not-coeffs_finite.true))
+pub returns-in_err-ask-2 : goal.returns-in_err-ask-2
+unfolding calc_idx
+returns-in_err-ask-2 c = grind (arith, nat_tests, common_steps)
 
-pub returns-then-not-list_sound : goal.returns-then-not-list_sound
-returns-then-not-list_sound c =
-    let a = c.args in
-    let f = sym c.is_finite.ensures ∙ c.if-not-is_finite.false in
-    let g = sym c.coeffs_finite.ensures ∙ c.if-not-coeffs_finite.false in
-    sym (asks-sound a.dir a.offset.0 a.hint a.n a.col.now f g (sym c.list_sound.ensures ∙ c.if-not-list_sound.true))
+pub find-requires-clause-n_nonzero : goal.find-requires-clause-n_nonzero
+find-requires-clause-n_nonzero c = grind (arith, common_steps, sound-known c.args.n c.args.col.now)
 
-pub find-requires : goal.find-requires
-find-requires c =
-    let a = c.args in let asked = sound-known a.n a.col.now (sym c.list_sound.ensures ∙ c.if-not-list_sound.false) in record { n_nonzero = asked.0; n_in_bounds = asked.1 }
+pub find-requires-clause-n_in_bounds : goal.find-requires-clause-n_in_bounds
+find-requires-clause-n_in_bounds c = grind (arith, common_steps, sound-known c.args.n c.args.col.now)
 
 pub returns : goal.returns
-returns c =
-    let a = c.args in
-    let f = sym c.is_finite.ensures ∙ c.if-not-is_finite.false in
-    let g = sym c.coeffs_finite.ensures ∙ c.if-not-coeffs_finite.false in
-    c.find.ensures ∙ sym (asks-search a.dir a.offset.0 a.hint a.n a.col.now f g (sym c.list_sound.ensures ∙ c.if-not-list_sound.false))
+unfolding calc_idx
+returns c = grind (arith, nat_tests, common_steps)

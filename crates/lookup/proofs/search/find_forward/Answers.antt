@@ -1,40 +1,22 @@
 -- `find_forward`: question by question.
-use mathlib.Core.Path.{sym, ap, ◌∙◌}
 use native.Mathlib.Omega.{arith}
-use lib.Ieee as Ieee
+use Rattle.std.proofs.lemmas.Grind.{common_steps}
+use Rattle.std.proofs.lemmas.Bool.Decides.{nat_tests}
 use Rattle.column.proofs.Bridge.{length-records}
-use Rattle.lookup.specs.CalcIdx.{done_at}
-use Rattle.lookup.specs.Coeff.{triple, coeffs}
+use Rattle.lookup.specs.Coeff.{triple}
+use Rattle.lookup.specs.Search.{in_range, hint_allowed, searched}
+use Rattle.lookup.specs.CalcIdx.{find_in}
 use Rattle.lookup.proofs.Coeffs.{triple-lawful}
-use Rattle.lookup.proofs.SearchSteps.{forward-found, forward-hint, forward-range}
 use Rattle.lookup.proofs.search.find_forward.Goals as goal
 
-pub returns-then-hint-n : goal.returns-then-hint-n
-returns-then-hint-n c =
-    let n = c.args.n in
-    let l = c.args.col.now in
-    let rs = coeffs n l in
-    let size = length-records triple triple-lawful n l in
-    let x = c.args.x.0 in
-    let hint = c.args.hint in
-    ap done_at c.forward.ensures ∙ sym (forward-found x hint n rs size (ap (Ieee.le x) (sym c.offset_at.ensures) ∙ c.if-x-offset_at.true) (omega arith))
+pub returns-in_err-ask : goal.returns-in_err-ask
+unfolding find_in in_range hint_allowed searched
+returns-in_err-ask c = let size = length-records triple triple-lawful c.args.n c.args.col.now in grind (arith, nat_tests, common_steps)
 
-pub returns-then-x-offset_at : goal.returns-then-x-offset_at
-returns-then-x-offset_at c =
-    let n = c.args.n in
-    let l = c.args.col.now in
-    let rs = coeffs n l in
-    let size = length-records triple triple-lawful n l in
-    let x = c.args.x.0 in
-    let hint = c.args.hint in
-    sym (forward-hint x hint n rs size (ap (Ieee.le x) (sym c.offset_at.ensures) ∙ c.if-x-offset_at.true) (omega arith))
+pub returns-in_err-ask-2 : goal.returns-in_err-ask-2
+unfolding find_in in_range hint_allowed searched
+returns-in_err-ask-2 c = let size = length-records triple triple-lawful c.args.n c.args.col.now in grind (arith, nat_tests, common_steps)
 
 pub returns : goal.returns
-returns c =
-    let n = c.args.n in
-    let l = c.args.col.now in
-    let rs = coeffs n l in
-    let size = length-records triple triple-lawful n l in
-    let x = c.args.x.0 in
-    let hint = c.args.hint in
-    sym (forward-range x hint n rs size (ap (Ieee.le x) (sym c.offset_at.ensures) ∙ c.if-x-offset_at.false))
+unfolding find_in in_range hint_allowed searched
+returns c = let size = length-records triple triple-lawful c.args.n c.args.col.now in grind (arith, nat_tests, common_steps)

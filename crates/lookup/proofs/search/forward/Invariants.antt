@@ -1,12 +1,8 @@
 -- `forward`: from i on the search ends where it ends from the hint on.
-use Prim.Native.Nat.{◌-◌, ◌<◌}
 use mathlib.Core.Path.{◌≡◌}
 use Rattle.lookup.specs.Coeff.{coeffs}
 use Rattle.lookup.specs.Search.{forwards}
 use Rattle.lookup.proofs.search.forward.Given as goal
 
 abbrev pub invariant-loop-i : goal.invariant-loop-i
-invariant-loop-i l = (l.i < l.n) × (forwards l.x.0 l.i (coeffs l.n l.col) ≡ forwards l.x.0 l.hint (coeffs l.n l.col))
-
-abbrev pub decreases-loop-i : goal.decreases-loop-i
-decreases-loop-i l = l.n - l.i
+invariant-loop-i l = forwards l.x.0 l.i (coeffs l.n l.col) ≡ forwards l.x.0 l.hint (coeffs l.n l.col)

@@ -1,7 +1,7 @@
 -- `calc_res_val`: operation for operation.
 use mathlib.Core.Path.{refl}
 use Rattle.lookup.specs.Coeff.{res_val}
-use Rattle.lookup.proofs.path_res_coeff.calc_res_val.Goals as goal
+use Rattle.lookup.proofs.path_res_coeff.PathResCoeff.calc_res_val.Goals as goal
 
 pub returns : goal.returns
 unfolding res_val
