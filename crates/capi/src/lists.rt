@@ -10,7 +10,7 @@ ghost use Rattle.capi.specs.Codes.{dir_of, directed};
 
 use crate::codes::{DirCode, dir_of};
 use path::answer::asked;
-use resistance::listed::{CoeffAnswer, NetAnswer, Searched, answer_of};
+use resistance::listed::{CoeffAnswer, NetAnswer, Searched};
 use resistance::point::{Point, PointAnswer, PointRes};
 use resistance::strap::{Strap, StrapAnswer, StrapRes};
 use si::{Force, Length};
@@ -28,7 +28,7 @@ pub extern "C" fn mochaspit_calc_idx(
     ensures { result ≡ directed (dir_of dir) (λ d. searched_of (calc_idx d offset.0 hint n col.now)) (not_searched 1) }
 {
     match dir_of(dir) {
-        DirCode::Known(d) => answer_of(lookup::calc_idx::calc_idx(col, n, offset, hint, d)),
+        DirCode::Known(d) => Searched::from(lookup::calc_idx::calc_idx(col, n, offset, hint, d)),
         DirCode::Unknown => Searched {
             answer: asked(1, false),
             idx: 0,

@@ -3,7 +3,7 @@ use crate::print::{done, end, real, whole};
 use crate::table::{dir_of, float_at, floats_at, state_at};
 use crate::words::{entry, held};
 use lookup::calc_idx::calc_idx;
-use resistance::listed::{CoeffAnswer, NetAnswer, answer_of};
+use resistance::listed::{CoeffAnswer, NetAnswer, Searched};
 use resistance::point::{Point, path_tpc_idx_front as point_index};
 use resistance::strap::{Strap, path_tpc_idx_front as front_index};
 use si::Length;
@@ -68,7 +68,7 @@ fn search(w: &[u64], at: usize, s: Session) {
         entry(w, at, 1) as usize,
         dir_of(entry(w, at, 2)),
     );
-    let r = answer_of(found);
+    let r = Searched::from(found);
     let answer = r.answer;
     if done(b"calc_idx", answer) {
         whole(r.idx as u64);

@@ -10,7 +10,6 @@ use lib.Ieee.{Float}
 use lib.Ieee.Scale.{finite}
 use Rattle.ieee.specs.Number.{+0, ◌⊖◌, ◌⊗◌, all_finite}
 use Rattle.lookup.specs.declared.lin_search_hint.Dir.{Dir}
-use Rattle.lookup.specs.declared.lin_search_hint.Found.{Found}
 use Rattle.lookup.specs.declared.path_res_coeff.PathResCoeff.{PathResCoeff}
 use Rattle.lookup.specs.Coeff.{coeffs, coeff_at, stands_at, coefficient_of, res_val, coeffs_finite}
 use Rattle.lookup.specs.CalcIdx.{Indexed, indexed, find_in, list_sound}
@@ -69,10 +68,6 @@ list-of-state s n c e f = f ∙ ap (λ (b : Bool). list_answer b n c) e
 -- the answer of a search that is done, and its index
 abbrev pub Within : List PathResCoeff → Searched → Type 0
 Within rs r = r.answer.number ≡ 0 → (r.answer ≡ done) × (r.idx < length rs)
-
--- the answer a to the question that a case of the enum stands for
-pub answer-as : {found case : Found} {a : Answer} → found ≡ case → a ≡ (searched_of (indexed case)).answer → record { answer = a; idx = (searched_of (indexed case)).idx } ≡ searched_of (indexed found)
-answer-as {case = case} h e = ap (λ (a : Answer). record { answer = a; idx = (searched_of (indexed case)).idx }) e ∙ ap (λ (f : Found). searched_of (indexed f)) (sym h)
 
 module _ (dir : Dir) (x : Float) (hint : ℕ) (rs : List PathResCoeff) where
   pub search-of : {f : Indexed} → f ≡ find_in dir x hint rs → searched_of f ≡ search dir x hint rs

@@ -4,9 +4,10 @@ ghost use Rattle.lookup.specs.Coeff.{coeffs};
 ghost use Rattle.lookup.specs.CalcIdx.{indexed};
 ghost use Rattle.resistance.specs.Listed as spec;
 
+use answer::Refusal;
 use lookup::calc_idx::list_sound;
-use lookup::lin_search_hint::{Dir, Found};
-use lookup::path_res_coeff::{calc_res_val, coeff_in, coeffs_finite};
+use lookup::lin_search_hint::Dir;
+use lookup::path_res_coeff::{coeff_in, coeffs_finite};
 use lookup::search::find;
 use path::answer::{asked, done};
 use path::path_tpc::Answer;
@@ -50,31 +51,24 @@ pub fn list_answer(col: &[f64], n: usize, also: bool) -> Answer
     asked(2, list_sound(col, n))
 }
 
-// The number of a search's answer, and its index.
-pub fn answer_of(found: Found) -> Searched
-    ensures { result ≡ spec.searched_of (indexed found) }
-{
-    match found {
-        Found::At(idx) => Searched {
-            answer: done(),
-            idx,
-        },
-        Found::NotFinite => Searched {
-            answer: asked(1, false),
-            idx: 0,
-        },
-        Found::NotSound => Searched {
-            answer: asked(2, false),
-            idx: 0,
-        },
-        Found::OutOfRange => Searched {
-            answer: asked(10, false),
-            idx: 0,
-        },
-        Found::BadHint => Searched {
-            answer: asked(11, false),
-            idx: 0,
-        },
+// The number of a search's answer, and its index; 0 for a refusal.
+impl From<Result<usize, Refusal>> for Searched {
+    ghost from_gives = { λ found r. r ≡ spec.searched_of (indexed found) };
+
+    fn from(found: Result<usize, Refusal>) -> Searched {
+        match found {
+            Ok(idx) => Searched {
+                answer: done(),
+                idx,
+            },
+            Err(e) => Searched {
+                answer: Answer {
+                    number: e.question.number(),
+                    place: e.place,
+                },
+                idx: 0,
+            },
+        }
     }
 }
 
@@ -84,7 +78,7 @@ pub fn search(col: &[f64], n: usize, x: Length, hint: usize, dir: Dir) -> Search
     requires n_in_bounds { 3 * n ≤ length col.now }
     ensures { result ≡ spec.search dir x.0 hint (coeffs n col.now) }
 {
-    answer_of(find(col, n, x, hint, dir))
+    Searched::from(find(col, n, x, hint, dir))
 }
 
 // The coefficient of record idx of a list: questions 1, 2 and 11.
@@ -129,7 +123,7 @@ pub fn res_net(idx: usize, x: Length, col: &[f64], n: usize, state: TrainState) 
             res_net: Length(0.0),
         };
     }
-    let v = calc_res_val(coeff_in(col, n, idx), x);
+    let v = coeff_in(col, n, idx).calc_res_val(x);
     if !ieee::is_finite(v.0) {
         return NetAnswer {
             answer: asked(8, false),

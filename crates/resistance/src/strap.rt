@@ -6,7 +6,7 @@ ghost use Rattle.resistance.specs.Strap as spec;
 
 use crate::listed::{CoeffAnswer, NetAnswer, list_answer, res_coeff, res_net, search};
 use lookup::lin_search_hint::Dir;
-use lookup::path_res_coeff::{calc_res_val, coeff_in};
+use lookup::path_res_coeff::coeff_in;
 use path::answer::{asked, done};
 use path::path_tpc::Answer;
 use si::{Force, Length, Ratio};
@@ -147,9 +147,9 @@ pub fn calc_res_strap(one: bool, strap: Strap, col: &[f64], n: usize, state: Tra
     if one {
         return Ratio(front.res_coeff.0);
     }
-    let front_value = calc_res_val(front, Length(state.offset.0));
+    let front_value = front.calc_res_val(Length(state.offset.0));
     let back = coeff_in(col, n, strap.idx_back);
-    let back_value = calc_res_val(back, Length(state.offset_back.0));
+    let back_value = back.calc_res_val(Length(state.offset_back.0));
     let length = state.length.0;
     Ratio((front_value.0 - back_value.0) / length)
 }

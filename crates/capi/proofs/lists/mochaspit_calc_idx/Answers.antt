@@ -10,7 +10,7 @@ use Rattle.capi.proofs.lists.mochaspit_calc_idx.Goals as goal
 pub returns-in-Known : goal.returns-in-Known
 returns-in-Known c =
     let a = c.args in
-    direction-known a.dir (λ (d : Dir). searched_of (calc_idx d a.offset.0 a.hint a.n a.col.now)) (not_searched 1) c.dir_of.ensures c.in-Known.is (c.answer_of.ensures ∙ ap searched_of c.calc_idx.ensures)
+    direction-known a.dir (λ (d : Dir). searched_of (calc_idx d a.offset.0 a.hint a.n a.col.now)) (not_searched 1) c.dir_of.ensures c.in-Known.is (c.from.ensures ∙ ap searched_of c.calc_idx.ensures)
 
 pub returns-in-Unknown : goal.returns-in-Unknown
 returns-in-Unknown c =

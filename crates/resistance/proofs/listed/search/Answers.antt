@@ -6,4 +6,4 @@ use Rattle.resistance.proofs.listed.search.Goals as goal
 pub returns : goal.returns
 returns c =
     let a = c.args in
-    c.answer_of.ensures ∙ search-of a.dir a.x.0 a.hint _ c.find.ensures
+    c.from.ensures ∙ search-of a.dir a.x.0 a.hint _ c.find.ensures
