@@ -6,19 +6,17 @@ use native.Mathlib.Omega.{arith}
 use mathlib.Core.Path.{◌≡◌, refl, ap, ◌∙◌}
 use mathlib.Core.Bool.{true, false, cond, and-eq-true_iff}
 use mathlib.Core.List.{List}
-use borrow.Author.Tests.{lt-ltb, le-ltb, leb-true, le-leb, lt-leb}
+use borrow.Author.Tests.{leb-true}
 use lib.Dec.{leb}
 use lib.ListN.{length, drop, drop_of_length-le}
 use lib.Seq.{drop-cons}
 use lib.Ieee as Ieee
 use lib.Ieee.{Float}
-use lib.Ieee.Scale.{finite}
-use Rattle.lookup.specs.declared.lin_search_hint.Dir.{Dir}
-use Rattle.lookup.specs.declared.lin_search_hint.Dir.TheVariants.{Unk, Fwd, Bwd}
+use Rattle.lookup.specs.declared.lin_search_hint.Dir.TheVariants.{Unk, Fwd}
 use Rattle.lookup.specs.declared.path_res_coeff.PathResCoeff.{PathResCoeff}
-use Rattle.lookup.specs.Coeff.{no_coeff, offset_at, coeffs, coeffs_finite}
-use Rattle.lookup.specs.Search.{count_before, forwards, last_not_after, backwards, searched, in_range, hint_allowed}
-use Rattle.lookup.specs.CalcIdx.{done_at, refused, find_in, list_sound, calc_idx}
+use Rattle.lookup.specs.Coeff.{no_coeff, offset_at}
+use Rattle.lookup.specs.Search.{count_before, forwards, last_not_after, searched, in_range, hint_allowed}
+use Rattle.lookup.specs.CalcIdx.{find_in, list_sound}
 
 module _ (x : Float) (rs : List PathResCoeff) (i : ℕ) where
   count_at : suc i < length rs → count_before x (drop (suc i) rs) ≡ cond (Ieee.lt (offset_at rs (suc i)) x) (suc (count_before x (drop (suc (suc i)) rs))) 0

@@ -2,7 +2,6 @@
 use Prim.Native.Nat.{◌-◌, ◌*◌}
 use mathlib.Core.Path.{◌≡◌, sym, ap, ◌∙◌}
 use native.Mathlib.Omega.{arith}
-use lib.ListN.{length}
 use lib.Seq.{take_all}
 use Rattle.ieee.specs.Number.{all_finite}
 use Rattle.lookup.specs.Coeff.{coeffs_finite}
