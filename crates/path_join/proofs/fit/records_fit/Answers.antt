@@ -15,9 +15,6 @@ returns-then-list-gt1025 c =
     let l = columns a.offsets.now a.numbers.now a.grades.now a.curves.now a.speeds.now a.powers.now a.districts.now in
     sym (too_long a.train t a.list.now a.p l c.if-list-gt1025.true)
 
-pub sum_counts-sum-requires : goal.sum_counts-sum-requires
-sum_counts-sum-requires c = c.if-list-gt1025.false
-
 pub sum_limits-laid-requires : goal.sum_limits-laid-requires
 sum_limits-laid-requires c = record { list_len_bound = c.if-list-gt1025.false; list_value = c.requires.list_value }
 

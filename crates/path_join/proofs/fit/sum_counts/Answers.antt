@@ -10,9 +10,6 @@ use Rattle.path_join.proofs.fit.sum_counts.Goals as goal
 pub loop-i-init : goal.loop-i-init
 loop-i-init c = (omega arith, omega arith, omega arith)
 
-pub link_numbers-l-requires : goal.link_numbers-l-requires
-link_numbers-l-requires c = omega (arith, c.type_inv.list c.loop-i.i-index)
-
 pub overflow_add-grades : goal.overflow_add-grades
 overflow_add-grades c =
     let a = c.args in

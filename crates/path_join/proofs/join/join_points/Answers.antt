@@ -10,9 +10,6 @@ loop-k-init c =
     let a = c.args in
     (refl, refl, points-first a.links.now a.lengths.now a.list.now a.offsets.now a.numbers.now a.n c.requires.holds_points)
 
-pub overflow_add-n : goal.overflow_add-n
-overflow_add-n c = omega (arith, c.requires.list_bound, c.loop-k-test.true)
-
 pub join_point-requires : goal.join_point-requires
 join_point-requires c = record { n_nonzero = omega (arith, c.requires.n_nonzero); i_bound = omega (arith, c.type_inv.list c.loop-k.k); n_in_bounds = omega (arith, c.requires.list_in_bounds, c.loop-k-test.true, c.loop-k.invariant.0); n_in_bounds_2 = omega (arith, c.requires.list_in_bounds_2, c.loop-k-test.true, c.loop-k.invariant.1); holds_points = c.loop-k.invariant.2.held }
 

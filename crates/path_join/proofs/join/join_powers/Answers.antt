@@ -8,9 +8,6 @@ use Rattle.path_join.proofs.join.join_powers.Goals as goal
 pub loop-link-init : goal.loop-link-init
 loop-link-init c = record { long = refl; wide = refl; room = c.requires.list_in_bounds; place = c.requires.list_in_bounds_2; held = c.requires.holds_powers; is = refl }
 
-pub link_numbers-l-requires : goal.link_numbers-l-requires
-link_numbers-l-requires c = omega (arith, c.type_inv.list c.loop-link.link-index)
-
 pub lay_powers-requires : goal.lay_powers-requires
 lay_powers-requires c =
     let o = c.loop-link in
@@ -21,9 +18,6 @@ overflow_add-n c =
     let o = c.loop-link in
     let room = powers-room o.invariant (left-next c.args.list.now o.link-index c.loop-link-test.true) c.link_numbers-l.ensures in
     omega (arith, room.0, o.invariant.long, c.well_formed)
-
-pub grade_end-base-requires : goal.grade_end-base-requires
-grade_end-base-requires c = omega (arith, c.type_inv.list c.loop-link.link-index)
 
 pub loop-link-preserved : goal.loop-link-preserved
 loop-link-preserved c =

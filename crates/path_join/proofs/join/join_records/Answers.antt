@@ -12,9 +12,6 @@ pub join_record-n-requires : goal.join_record-n-requires
 join_record-n-requires c =
     let o = c.loop-i in record { m_nonzero = o.invariant.some; i_bound = omega (arith, c.type_inv.list o.i-index); i_in_bounds = records-room o.invariant (left-next c.args.list.now o.i-index c.loop-i-test.true); col_value = o.invariant.held }
 
-pub grade_end-base-requires : goal.grade_end-base-requires
-grade_end-base-requires c = omega (arith, c.type_inv.list c.loop-i.i-index)
-
 pub loop-i-preserved : goal.loop-i-preserved
 loop-i-preserved c =
     let o = c.loop-i in

@@ -14,12 +14,6 @@ returns-then-list-eq0 c =
     let a = c.args in
     sym (net-unlisted a.links.now a.elevs.now a.m a.net.0 a.list.now c.if-list-eq0.true)
 
-pub overflow_cast-list : goal.overflow_cast-list
-overflow_cast-list c = omega (arith, c.type_inv.list 0)
-
-pub link_numbers-l-requires : goal.link_numbers-l-requires
-link_numbers-l-requires c = omega (arith, c.type_inv.list 0)
-
 pub returns-then-l-eq0 : goal.returns-then-l-eq0
 returns-then-l-eq0 c =
     let a = c.args in

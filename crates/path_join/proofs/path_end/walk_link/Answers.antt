@@ -1,34 +1,12 @@
 -- `walk_link`: the answers of the link's limits, grades, curves and power limits, joined.
 use mathlib.Core.Bool.{true, false}
 use mathlib.Core.Path.{◌∙◌}
-use native.Mathlib.Omega.{arith}
 use Rattle.link.specs.Table.{table_of}
 use Rattle.path_join.proofs.Carried.{no-grades, no-curves, walked-link}
 use Rattle.path_join.proofs.path_end.walk_link.Goals as goal
 
-pub link_numbers-l-requires : goal.link_numbers-l-requires
-link_numbers-l-requires c = c.requires.i_bound
-
 pub link_finite-laid-requires : goal.link_finite-laid-requires
 link_finite-laid-requires c = record { i_bound = c.requires.i_bound; i_value = c.requires.i_value }
-
-pub overflow_cast-first : goal.overflow_cast-first
-overflow_cast-first c = record { fits = omega arith }
-
-pub overflow_cast-count : goal.overflow_cast-count
-overflow_cast-count c = record { fits = omega arith }
-
-pub overflow_cast-first-2 : goal.overflow_cast-first-2
-overflow_cast-first-2 c = record { fits = omega arith }
-
-pub overflow_cast-count-2 : goal.overflow_cast-count-2
-overflow_cast-count-2 c = record { fits = omega arith }
-
-pub overflow_cast-first-3 : goal.overflow_cast-first-3
-overflow_cast-first-3 c = record { fits = omega arith }
-
-pub overflow_cast-count-3 : goal.overflow_cast-count-3
-overflow_cast-count-3 c = record { fits = omega arith }
 
 pub returns-in_err-slopes : goal.returns-in_err-slopes
 returns-in_err-slopes c =
