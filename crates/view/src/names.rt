@@ -51,6 +51,7 @@ fn character(bytes: &[u8]) {
 // A text, with a question mark for each byte where XML takes no character.
 fn all_written(text: &[u8]) {
     let mut rest = text;
+    // a while: each turn goes on by the length of a character
     while !rest.is_empty() {
         let n = match length_at_front(rest) {
             Some(n) => {
