@@ -1,8 +1,9 @@
 // The rows (R136 to R153), run through the code and printed as it answers them.
 #![tactic(auto)]
 
+use answer::Refusal;
 use lookup::calc_idx::calc_idx;
-use lookup::lin_search_hint::{Dir, Found};
+use lookup::lin_search_hint::Dir;
 use path::link_point::LinkPoint;
 use path::path_tpc::{Answer, PathTpc};
 use path_clear::clear::clear;
@@ -198,16 +199,13 @@ fn t_rows(rt: &impl Print) -> io::Result<()> {
 
 // What a lookup answers: the index, or the number of the refusal.
 #[derive(Clone, Copy)]
-struct Told(Found);
+struct Told(Result<usize, Refusal>);
 
 impl fmt::Display for Told {
     fn fmt<W: fmt::Write>(&self, f: &mut fmt::Formatter<W>) -> fmt::Result {
         match self.0 {
-            Found::At(i) => write!(f, " {i}"),
-            Found::NotFinite => f.write_str(" refused with 1"),
-            Found::NotSound => f.write_str(" refused with 2"),
-            Found::OutOfRange => f.write_str(" refused with 10"),
-            Found::BadHint => f.write_str(" refused with 11"),
+            Ok(i) => write!(f, " {i}"),
+            Err(e) => write!(f, " refused with {}", e.question.number()),
         }
     }
 }
