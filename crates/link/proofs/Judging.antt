@@ -1,5 +1,5 @@
 -- The questions to a link, asked in their order: where one is answered with no, and what is left to ask after a yes.
-use Rattle.std.proofs.Common.{◌≡◌, ℕ, zero, suc, ◌+◌, ◌-◌, ◌*◌, ◌/◌, ◌<◌, ◌≤◌, Bool, true, false, not, ◌&&◌, ◌||◌, eqb, ltb, leb, List, length, get_or, sym, refl, ap, ◌∙◌, one-mul, add-one, arith, le-ltb, lt-ltb, le-leb, leb-false, leb-true, Some, None}
+use Rattle.std.proofs.Common.{◌≡◌, ℕ, zero, suc, ◌+◌, ◌-◌, ◌*◌, ◌/◌, ◌<◌, ◌≤◌, Bool, true, false, not, ◌&&◌, ◌||◌, eqb, ltb, leb, List, length, get_or, sym, refl, ap, ◌∙◌, one-mul, add-one, arith, le-ltb, lt-ltb, le-leb, leb-false, leb-true, Option, Some, None}
 use borrow.Author.Tests.{lt-leb, not-true, not-false}
 use lib.Ieee as Ieee
 use lib.Ieee.{Float}
@@ -8,7 +8,7 @@ use Rattle.ieee.specs.Number.{+0}
 use Rattle.link.specs.declared.network.LinkNumbers.{LinkNumbers}
 use Rattle.link.specs.Lists.{every, up_from, first_no_from}
 use Rattle.link.specs.Table.{LinkTable, sample_at, limit_at, power_at, set_at, numbers_of, link_at, in_table}
-use Rattle.link.specs.Questions.{apart, follows, contiguous, samples_formed, limit_formed, power_formed, set_formed, in_pools, well_formed}
+use Rattle.link.specs.Questions.{apart, follows, follows_last, contiguous, samples_formed, limit_formed, power_formed, set_formed, in_pools, well_formed}
 use Rattle.link.proofs.Loops.{range-more, range_none}
 
 -- two comparisons agree
@@ -60,18 +60,18 @@ apart-test idx alt = pick (eqb idx alt) (eqb alt 0)
     pick true false = refl
     pick false none = refl
 
--- a link l at position k of the list
-module _ (links : List ℕ) (at : ℕ → ℕ) (asked : Bool) (prev k end : ℕ) where
+-- a link l at position k of the list, behind the link `last`
+module _ (links : List ℕ) (at : ℕ → ℕ) (last : Option ℕ) (k end : ℕ) where
   module _ (h : k < end) (l : LinkNumbers) (own : l ≡ numbers_of links (at k)) where
-    pub follow-pass : (not asked || follows prev l) ≡ true → first_no_from k (contiguous links asked prev (up_from at k (end - k))) ≡ first_no_from (k + 1) (contiguous links true l.idx_curr (up_from at (k + 1) (end - (k + 1))))
+    pub follow-pass : follows_last last l ≡ true → first_no_from k (contiguous links last (up_from at k (end - k))) ≡ first_no_from (k + 1) (contiguous links (Some l.idx_curr) (up_from at (k + 1) (end - (k + 1))))
     unfolding first_no_from contiguous
     follow-pass t = rw (range-more at k end h, ← own, t, add-one k)
 
-    pub follow-fail : (not asked || follows prev l) ≡ false → first_no_from k (contiguous links asked prev (up_from at k (end - k))) ≡ Some k
+    pub follow-fail : follows_last last l ≡ false → first_no_from k (contiguous links last (up_from at k (end - k))) ≡ Some k
     unfolding first_no_from contiguous
     follow-fail t = rw (range-more at k end h, ← own, t)
 
-  pub follow-end : end ≤ k → first_no_from k (contiguous links asked prev (up_from at k (end - k))) ≡ None
+  pub follow-end : end ≤ k → first_no_from k (contiguous links last (up_from at k (end - k))) ≡ None
   unfolding first_no_from contiguous
   follow-end h = rw (range_none at k end h)
 

@@ -1,7 +1,8 @@
 -- How a pass over a range goes on: one element more, the first that fails, and none left.
-use Rattle.std.proofs.Common.{◌≡◌, ℕ, zero, suc, ◌+◌, ◌-◌, ◌<◌, ◌≤◌, Bool, true, false, ◌&&◌, List, [], ◌∷◌, ◌++◌, map, length, get_or, take, drop, sym, refl, ap, ◌∙◌, ap₂, le_of_suc-le-suc, not-suc-le-zero, add-one, arith, Some, None}
-use mathlib.Core.Bool.{and_assoc}
-use Rattle.link.specs.Lists.{every, up_from, first_no_from}
+use Rattle.std.proofs.Common.{◌≡◌, ℕ, zero, suc, ◌+◌, ◌-◌, ◌<◌, ◌≤◌, Bool, true, false, ◌&&◌, List, [], ◌∷◌, ◌++◌, map, length, get_or, take, drop, MatchOption, Option, zero-add, sym, refl, ap, ◌∙◌, ap₂, le_of_suc-le-suc, not-suc-le-zero, add-one, arith, Some, None}
+use Rattle.std.specs.List.{list_all, range_with_len}
+use mathlib.Core.Bool.{and_assoc, false≢true}
+use Rattle.link.specs.Lists.{every, up_from, first_no, first_no_from}
 
 module _ {A : Type 0} (at : ℕ → A) where
   -- ---- the range
@@ -66,6 +67,41 @@ module _ {A : Type 0} (at : ℕ → A) where
     pub first-end : end ≤ i → first_no_from i (map ok (up_from at i (end - i))) ≡ None
     unfolding first_no_from
     first-end h = rw (range_none i end h)
+
+-- ---- each element passes, as `all` asks them in turn
+pub every-range : {A : Type 0} (at : ℕ → A) (ok : A → Bool) (first n : ℕ) → list_all (λ k. ok (at k)) (range_with_len first n) ≡ every ok (up_from at first n)
+unfolding every up_from
+every-range at ok first zero = refl
+every-range at ok first (suc n) = ap (λ (b : Bool). ok (at first) && b) (ap (λ (k : ℕ). list_all (λ k. ok (at k)) (range_with_len k n)) (add-one first) ∙ every-range at ok (suc first) n)
+
+-- ---- the first that does not pass, as a search over the positions finds it
+module _ {A : Type 0} (at : ℕ → A) (ok : A → Bool) where
+  abbrev PassBelow : ℕ → ℕ → Type 0
+  PassBelow start end = (k : ℕ) → start ≤ k → k < end → ok (at k) ≡ true
+
+  first-from : (start n : ℕ) (r : Option ℕ)
+      → MatchOption r (PassBelow start (start + n)) (λ i. (start ≤ i) × (i < start + n) × (ok (at i) ≡ false) × PassBelow start i)
+      → r ≡ first_no_from start (map ok (up_from at start n))
+  unfolding first_no_from up_from
+  first-from start zero None h = refl
+  first-from start zero (Some i) h = absurd (omega (arith, h.0, h.1))
+  first-from start (suc n) None h =
+      rw (h start (omega arith) (omega arith)) (first-from (suc start) n None (λ k low high. h k (omega arith) (omega arith)))
+  first-from start (suc n) (Some i) h =
+      here (ok (at start)) refl (λ low. first-from (suc start) n (Some i) (low, omega (arith, h.1), h.2, λ k least most. h.3 k (omega arith) most))
+    where
+      here : (b : Bool) → ok (at start) ≡ b → (suc start ≤ i → Some i ≡ first_no_from (suc start) (map ok (up_from at (suc start) n))) → Some i ≡ first_no_from start (map ok (up_from at start (suc n)))
+      here true e rest =
+          let other : start ≡ i → ⊥ = λ q. false≢true (sym h.2 ∙ ap (λ (k : ℕ). ok (at k)) (sym q) ∙ e) in
+          rw e (rest (omega (arith, h.0, other)))
+      here false e rest =
+          let not-before : start < i → ⊥ = λ l. false≢true (sym e ∙ h.3 start (omega arith) l) in
+          rw e (ap Some (omega (arith, h.0, not-before)))
+
+  pub first-found : (count : ℕ) (r : Option ℕ)
+      → MatchOption r (PassBelow 0 count) (λ i. (0 ≤ i) × (i < count) × (ok (at i) ≡ false) × PassBelow 0 i)
+      → r ≡ first_no (map ok (up_from at 0 count))
+  first-found count r h = first-from 0 count r (rw zero-add h)
 
 -- ---- parts of a range
 module _ {A : Type 0} (at : ℕ → A) where

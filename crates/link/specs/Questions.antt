@@ -1,5 +1,5 @@
 -- Questions 4 to 7 (R107 to R110), put to one link and to a list of links. Definitions only.
-use Rattle.std.specs.Prelude.{ℕ, ◌+◌, ◌*◌, Bool, true, false, cond, not, ◌&&◌, ◌||◌, List, [], ◌∷◌, map, ◌==◌, nat_le, slice_index, Float, Option}
+use Rattle.std.specs.Prelude.{ℕ, ◌+◌, ◌*◌, Bool, true, false, cond, not, ◌&&◌, ◌||◌, List, [], ◌∷◌, map, ◌==◌, nat_le, slice_index, Float, Option, Some, None}
 use Rattle.std.specs.Float.Ieee as Ieee
 use Rattle.std.specs.Float.Ieee.Scale.{finite}
 use Rattle.ieee.specs.Number.{+0}
@@ -114,15 +114,20 @@ unfoldable pub question4 : List ℕ → List Float → List ℕ → List ℕ →
 unfolding real_in
 question4 links lengths sets ns = first_no (map (real_in links lengths sets) ns)
 
--- R48: the first of the list is asked where the path has a link, `last`
-unfoldable pub contiguous : List ℕ → Bool → ℕ → List ℕ → List Bool
-unfolding follows
-contiguous links asked last [] = []
-contiguous links asked last (n ∷ ns) = (not asked || follows last (numbers_of links n)) ∷ contiguous links true (numbers_of links n).idx_curr ns
+-- the link follows the one before it, where there is one
+abbrev pub follows_last : Option ℕ → LinkNumbers → Bool
+follows_last None link = true
+follows_last (Some prev) link = follows prev link
 
-unfoldable pub question5 : List ℕ → Bool → ℕ → List ℕ → Option ℕ
+-- R48: the first of the list is asked where the path has a link, `last`
+unfoldable pub contiguous : List ℕ → Option ℕ → List ℕ → List Bool
+unfolding follows
+contiguous links last [] = []
+contiguous links last (n ∷ ns) = follows_last last (numbers_of links n) ∷ contiguous links (Some (numbers_of links n).idx_curr) ns
+
+unfoldable pub question5 : List ℕ → Option ℕ → List ℕ → Option ℕ
 unfolding contiguous
-question5 links asked last ns = first_no (contiguous links asked last ns)
+question5 links last ns = first_no (contiguous links last ns)
 
 unfoldable pub question6 : LinkTable → List ℕ → Option ℕ
 unfolding well_formed

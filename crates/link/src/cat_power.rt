@@ -67,12 +67,9 @@ pub fn limits_formed(limits: &[f64], first: usize, count: usize) -> bool
     requires count_in_bounds { 3 * (first + count) ≤ length limits.now }
     ensures { result ≡ every limit_formed (up_from (limit_at limits.now) first count) }
 {
-    let end = first + count;
     let mut ok = true;
-    let mut i = first;
-    while i < end {
+    for i in first..first + count {
         ok = ok & limit_formed(limits, i);
-        i += 1;
     }
     ok
 }

@@ -70,14 +70,12 @@ fn rise_to(col: &[f64], first: usize, end: usize, o: f64, length: f64) -> bool
         (every sample_finite (up_from (sample_at col.now) first (end - first)) && rise_to length o
         (up_from (sample_at col.now) first (end - first))) }
 {
-    let mut i = first;
     let mut last = o;
     let mut ok = true;
-    while i < end {
+    for i in first..end {
         let t = sample_in(col, i);
         ok = ok & ((last < t.0) & (ieee::is_finite(t.0) & ieee::is_finite(t.1)));
         last = t.0;
-        i += 1;
     }
     ok & (last == length)
 }

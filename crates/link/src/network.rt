@@ -109,14 +109,7 @@ fn sets_formed(sets: &[u32], codes: &[u32], values: &[f64], limits: &[f64], i: u
     requires { i < 2 ^ 40 }
     ensures { result ≡ every (set_formed codes.now values.now limits.now) (up_from (set_at sets.now i) 0 8) }
 {
-    let mut p = 0;
-    while p < 8 {
-        if !place_formed(sets, codes, values, limits, i, p) {
-            return false;
-        }
-        p += 1;
-    }
-    true
+    (0..8).all(|p| place_formed(sets, codes, values, limits, i, p))
 }
 
 // Whether the ranges of elevations, headings and power limits lie inside their pools.

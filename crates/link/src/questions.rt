@@ -28,33 +28,22 @@ pub fn question4(
 ) -> Option<usize>
     ensures { result ≡ spec.question4 links.now lengths.now sets.now (spec.numbers points list.now count) }
 {
-    let mut k = 0;
-    while k < count {
-        if !real_in(links, lengths, sets, number_at(list, points, k)) {
-            return Some(k);
-        }
-        k += 1;
-    }
-    None
+    (0..count).find(|&k| !real_in(links, lengths, sets, number_at(list, points, k)))
 }
 
 // Question 5 of a list: each link follows the one before, the first the path's last link where it has one.
-pub fn question5(list: &[u32], links: &[u32], has_last: bool, last: u32) -> Option<usize>
-    ensures { result ≡ spec.question5 links.now has_last last (spec.numbers false list.now (length list.now)) }
+pub fn question5(list: &[u32], links: &[u32], last: Option<u32>) -> Option<usize>
+    ensures { result ≡ spec.question5 links.now last (spec.numbers false list.now (length list.now)) }
 {
-    let mut k = 0;
-    let mut asked = has_last;
-    let mut prev = last;
-    while k < list.len() {
-        let l = link_numbers(links, list[k] as usize);
-        if asked {
+    let mut before = last;
+    for (k, n) in list.iter().enumerate() {
+        let l = link_numbers(links, *n as usize);
+        if let Some(prev) = before {
             if !link_follows(prev, l) {
                 return Some(k);
             }
         }
-        asked = true;
-        prev = l.idx_curr;
-        k += 1;
+        before = Some(l.idx_curr);
     }
     None
 }
@@ -79,31 +68,24 @@ pub fn question6(
         (table_of links.now lengths.now sets.now elevs.now headings.now limits.now codes.now values.now powers.now districts.now)
         (spec.numbers points list.now count) }
 {
-    let mut k = 0;
-    while k < count {
+    (0..count).find(|&k| {
         let n = number_at(list, points, k);
-        if !well_formed(
+        !well_formed(
             links, lengths, sets, elevs, headings, limits, codes, values, powers, districts, n,
-        ) {
-            return Some(k);
-        }
-        k += 1;
-    }
-    None
+        )
+    })
 }
 
 // Question 7 of the first `count` numbers.
 pub fn question7(list: &[u32], points: bool, count: usize, sets: &[u32], t: TrainType) -> Option<usize>
     ensures { result ≡ spec.question7 sets.now t (spec.numbers points list.now count) }
 {
-    let mut k = 0;
-    while k < count {
+    for k in 0..count {
         let n = number_at(list, points, k);
         // this is the refusal with number 7, at place k
         let Some(_) = set_for(sets, n as usize, t) else {
             return Some(k);
         };
-        k += 1;
     }
     None
 }

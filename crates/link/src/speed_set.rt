@@ -58,15 +58,7 @@ fn conditions_formed(codes: &[u32], values: &[f64], first: usize, count: usize) 
     requires { first + count < 2 ^ 40 }
     ensures { result ≡ every condition_formed (up_from (condition_at codes.now values.now) first count) }
 {
-    let end = first + count;
-    let mut i = first;
-    while i < end {
-        if !condition_formed(codes, values, i) {
-            return false;
-        }
-        i += 1;
-    }
-    true
+    (first..first + count).all(|i| condition_formed(codes, values, i))
 }
 
 // Question 6 of a set that is present.

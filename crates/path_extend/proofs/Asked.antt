@@ -1,5 +1,5 @@
 -- `extend`: its questions in turn, and what an answer that is done has settled.
-use Rattle.std.specs.Prelude.{Option}
+use Rattle.std.specs.Prelude.{Option, Some, None}
 use Prim.Native.Nat.{ℕ, ◌+◌, ◌-◌, ◌*◌, ◌≤◌, ◌<◌}
 use native.Mathlib.Omega.{arith}
 use mathlib.Core.Path.{◌≡◌, refl, sym, ap, ap₂, ◌∙◌}
@@ -40,13 +40,13 @@ use Rattle.path_extend.proofs.PathEnds.{same-path-end}
 
 -- ---- question 5
 module _ (links : List ℕ) (os : List Float) (nums : List ℕ) (n : ℕ) (list : List ℕ) where
-  pub follows-none : {j : Option ℕ} → n < 2 → j ≡ question5 links false 0 (numbers false list (length list)) → j ≡ followed links (link_points n os nums) list
+  pub follows-none : {j : Option ℕ} → n < 2 → j ≡ question5 links None (numbers false list (length list)) → j ≡ followed links (link_points n os nums) list
   unfolding followed
   follows-none h e =
       let few : leb 2 (length (link_points n os nums)) ≡ false = lt-leb 2 (length (link_points n os nums)) (omega (arith, length-links n os nums)) in
-      e ∙ ap (question5 links false 0) (numbers-plain list) ∙ ap (λ (b : Bool). question5 links b (cond b (number_of (link_point_at (link_points n os nums) (length (link_points n os nums) - 2))) 0) list) (sym few)
+      e ∙ ap (question5 links None) (numbers-plain list) ∙ ap (λ (b : Bool). question5 links (cond b (Some (number_of (link_point_at (link_points n os nums) (length (link_points n os nums) - 2)))) None) list) (sym few)
 
-  pub follows-last : {j : Option ℕ} {q : LinkPoint} → 2 ≤ n → q ≡ point_at os nums (n - 2) → j ≡ question5 links true (number_of q) (numbers false list (length list)) → j ≡ followed links (link_points n os nums) list
+  pub follows-last : {j : Option ℕ} {q : LinkPoint} → 2 ≤ n → q ≡ point_at os nums (n - 2) → j ≡ question5 links (Some (number_of q)) (numbers false list (length list)) → j ≡ followed links (link_points n os nums) list
   unfolding followed
   follows-last h f e =
       let l = length-links n os nums in
@@ -54,8 +54,8 @@ module _ (links : List ℕ) (os : List Float) (nums : List ℕ) (n : ℕ) (list 
       let at : number_of (link_point_at (link_points n os nums) (length (link_points n os nums) - 2)) ≡ number_of (point_at os nums (n - 2)) =
       ap (λ (k : ℕ). number_of (link_point_at (link_points n os nums) (k - 2))) l ∙ ap number_of (link_at n os nums (n - 2) no_link_point (omega arith)) in
       e
-      ∙ ap₂ (λ (k : ℕ) (ms : List ℕ). question5 links true k ms) (ap number_of f ∙ sym at) (numbers-plain list)
-      ∙ ap (λ (b : Bool). question5 links b (cond b (number_of (link_point_at (link_points n os nums) (length (link_points n os nums) - 2))) 0) list) (sym many)
+      ∙ ap₂ (λ (k : ℕ) (ms : List ℕ). question5 links (Some k) ms) (ap number_of f ∙ sym at) (numbers-plain list)
+      ∙ ap (λ (b : Bool). question5 links (cond b (Some (number_of (link_point_at (link_points n os nums) (length (link_points n os nums) - 2)))) None) list) (sym many)
 
 module _ (train : TrainParams) (t : LinkTable) (ns : List ℕ) (p : PathTpc) (c : Columns) where
   -- ---- where the path stands

@@ -1,5 +1,5 @@
 -- `extend`, R38 to R49: links are joined to a path's end. path_tpc.rs. Definitions only.
-use Rattle.std.specs.Prelude.{ℕ, ◌-◌, cond, List, [], ◌∷◌, leb, Float, Option}
+use Rattle.std.specs.Prelude.{ℕ, ◌-◌, cond, List, [], ◌∷◌, leb, Float, Option, Some, None}
 use Rattle.std.proofs.Math.ListN as list
 use Rattle.link.specs.declared.train_params.TrainParams.{TrainParams}
 use Rattle.link.specs.Lists.{first_no}
@@ -18,7 +18,7 @@ use Rattle.path_join.specs.Sums.{path_end_of, sums_from}
 
 -- question 5: the first listed link follows the path's last one, where the path has a link
 unfoldable pub followed : List ℕ → List LinkPoint → List ℕ → Option ℕ
-followed links ps ns = question5 links (leb 2 (list.length ps)) (cond (leb 2 (list.length ps)) (number_of (link_point_at ps (list.length ps - 2))) 0) ns
+followed links ps ns = question5 links (cond (leb 2 (list.length ps)) (Some (number_of (link_point_at ps (list.length ps - 2)))) None) ns
 
 -- questions 8 and 9, for a train of this length
 unfoldable pub sums_answer : TrainParams → Float → LinkTable → List ℕ → PathTpc → Columns → Answer

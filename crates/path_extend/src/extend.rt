@@ -37,10 +37,10 @@ fn follow_question(
     ensures { result ≡ spec.followed links.now (link_points n offsets.now numbers.now) list.now }
 {
     if n < 2 {
-        return question5(list, links, false, 0);
+        return question5(list, links, None);
     }
     let last = link_point_at(offsets, numbers, n - 2);
-    question5(list, links, true, last.link_idx)
+    question5(list, links, Some(last.link_idx))
 }
 
 // Where the path stands when the first listed link is joined.

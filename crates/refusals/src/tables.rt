@@ -30,7 +30,7 @@ fn ask(
     if let Some(p) = questions::question4(list, false, n, links, lengths, sets) {
         return refused(4, p);
     }
-    if let Some(p) = questions::question5(list, links, false, 0) {
+    if let Some(p) = questions::question5(list, links, None) {
         return refused(5, p);
     }
     if let Some(p) = questions::question6(

@@ -6,7 +6,5 @@ use Rattle.link.specs.Questions.{limit_formed}
 use Rattle.link.proofs.cat_power.limits_formed.Given as goal
 
 abbrev pub invariant-loop-i : goal.invariant-loop-i
-invariant-loop-i l = (l.i ≤ l.end) × ((l.ok && every limit_formed (up_from (limit_at l.limits) l.i (l.end - l.i))) ≡ every limit_formed (up_from (limit_at l.limits) l.first l.count))
+invariant-loop-i l = (l.i ≤ l.i-end) × ((l.ok && every limit_formed (up_from (limit_at l.limits) l.i (l.i-end - l.i))) ≡ every limit_formed (up_from (limit_at l.limits) l.first l.count))
 
-abbrev pub decreases-loop-i : goal.decreases-loop-i
-decreases-loop-i l = l.end - l.i
