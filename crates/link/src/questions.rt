@@ -77,7 +77,13 @@ pub fn question6(
 }
 
 // Question 7 of the first `count` numbers.
-pub fn question7(list: &[u32], points: bool, count: usize, sets: &[u32], t: TrainType) -> Option<usize>
+pub fn question7(
+    list: &[u32],
+    points: bool,
+    count: usize,
+    sets: &[u32],
+    t: TrainType,
+) -> Option<usize>
     ensures { result ≡ spec.question7 sets.now t (spec.numbers points list.now count) }
 {
     for k in 0..count {

@@ -7,4 +7,3 @@ use Rattle.link.proofs.cat_power.limits_formed.Given as goal
 
 abbrev pub invariant-loop-i : goal.invariant-loop-i
 invariant-loop-i l = (l.i ≤ l.i-end) × ((l.ok && every limit_formed (up_from (limit_at l.limits) l.i (l.i-end - l.i))) ≡ every limit_formed (up_from (limit_at l.limits) l.first l.count))
-

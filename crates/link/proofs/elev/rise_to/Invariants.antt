@@ -6,4 +6,3 @@ use Rattle.link.proofs.elev.rise_to.Given as goal
 
 abbrev pub invariant-loop-i : goal.invariant-loop-i
 invariant-loop-i l = (l.i ≤ l.end) × ((l.ok && rising_from (sample_at l.col) l.length l.i l.end l.last) ≡ rising_from (sample_at l.col) l.length l.first l.end l.o)
-

@@ -6,4 +6,3 @@ use Rattle.link.proofs.questions.question7.Given as goal
 
 abbrev pub invariant-loop-k : goal.invariant-loop-k
 invariant-loop-k l = first_no_from l.k (map (has_set l.sets l.t) (up_from (number_at l.points l.list) l.k (l.count - l.k))) ≡ question7 l.sets l.t (numbers l.points l.list l.count)
-
