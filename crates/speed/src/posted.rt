@@ -10,6 +10,7 @@ use si::{Length, Velocity};
 
 impl SpeedPoints<'_> {
     // The speed of the last of sorted points at or before x, searched by halves: point lo is at or before x, point hi after it or past the last.
+    // A `while`, since its ends do not step; std's partition_point wants a slice of points, and here each is two entries of a flat column.
     pub fn posted_at(&self, x: Length) -> Velocity
         requires some { 0 < length self.now }
         requires sorted { Sorted self.now }
