@@ -9,6 +9,7 @@ use Rattle.link.specs.declared.cat_power.CatPowerLimit.{CatPowerLimit}
 use Rattle.link.specs.declared.train_params.TrainType.{TrainType}
 use Rattle.link.specs.declared.speed_set.SpeedSet.{SpeedSet}
 use Rattle.link.specs.declared.network.LinkNumbers.{LinkNumbers}
+use Rattle.link.specs.declared.network.Network.{Network}
 use Rattle.link.specs.Lists.{up_from}
 use Rattle.link.specs.Train.{type_number}
 use Rattle.link.specs.Condition.{Condition}
@@ -50,6 +51,11 @@ table_of links lengths sets elevs headings limits codes values powers districts 
       powers = powers;
       districts = districts;
     }
+
+-- the table that the columns hold, as the code lends them
+abbrev pub table : Network → LinkTable
+table n =
+    table_of n.links.now n.lengths.now n.sets.now n.elevs.now n.headings.now n.limits.now n.codes.now n.values.now n.powers.now n.districts.now
 
 -- ---- records of the pools
 

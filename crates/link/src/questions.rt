@@ -1,9 +1,9 @@
 // Questions 4 to 7 over a list of link numbers: the first position that fails.
 ghost use Rattle.std.specs.Prelude.{◌≡◌, false, length};
-ghost use Rattle.link.specs.Table.{table_of};
+ghost use Rattle.link.specs.Table.{table};
 ghost use Rattle.link.specs.Questions as spec;
 
-use crate::network::{link_follows, link_numbers, real_in, well_formed};
+use crate::network::{Network, link_follows, link_numbers};
 use crate::speed_set::set_for;
 use crate::train_params::TrainType;
 
@@ -15,20 +15,6 @@ pub fn number_at(list: &[u32], points: bool, k: usize) -> u32
         return column::record_at::<column::Four>(list, k).3;
     }
     column::get(list, k)
-}
-
-// Question 4 of the first `count` numbers.
-pub fn question4(
-    list: &[u32],
-    points: bool,
-    count: usize,
-    links: &[u32],
-    lengths: &[f64],
-    sets: &[u32],
-) -> Option<usize>
-    ensures { result ≡ spec.question4 links.now lengths.now sets.now (spec.numbers points list.now count) }
-{
-    (0..count).find(|&k| !real_in(links, lengths, sets, number_at(list, points, k)))
 }
 
 // Question 5 of a list: each link follows the one before, the first the path's last link where it has one.
@@ -48,50 +34,32 @@ pub fn question5(list: &[u32], links: &[u32], last: Option<u32>) -> Option<usize
     None
 }
 
-// Question 6 of the first `count` numbers.
-pub fn question6(
-    list: &[u32],
-    points: bool,
-    count: usize,
-    links: &[u32],
-    lengths: &[f64],
-    sets: &[u32],
-    elevs: &[f64],
-    headings: &[f64],
-    limits: &[f64],
-    codes: &[u32],
-    values: &[f64],
-    powers: &[f64],
-    districts: &[u32],
-) -> Option<usize>
-    ensures { result ≡ spec.question6
-        (table_of links.now lengths.now sets.now elevs.now headings.now limits.now codes.now values.now powers.now districts.now)
-        (spec.numbers points list.now count) }
-{
-    (0..count).find(|&k| {
-        let n = number_at(list, points, k);
-        !well_formed(
-            links, lengths, sets, elevs, headings, limits, codes, values, powers, districts, n,
-        )
-    })
-}
-
-// Question 7 of the first `count` numbers.
-pub fn question7(
-    list: &[u32],
-    points: bool,
-    count: usize,
-    sets: &[u32],
-    t: TrainType,
-) -> Option<usize>
-    ensures { result ≡ spec.question7 sets.now t (spec.numbers points list.now count) }
-{
-    for k in 0..count {
-        let n = number_at(list, points, k);
-        // this is the refusal with number 7, at place k
-        let Some(_) = set_for(sets, n as usize, t) else {
-            return Some(k);
-        };
+impl Network<'_> {
+    // Question 4 of the first `count` numbers.
+    pub fn question4(&self, list: &[u32], points: bool, count: usize) -> Option<usize>
+        ensures { result ≡ spec.question4 self.now.links.now self.now.lengths.now self.now.sets.now (spec.numbers points list.now count) }
+    {
+        (0..count).find(|&k| !self.real_in(number_at(list, points, k)))
     }
-    None
+
+    // Question 6 of the first `count` numbers.
+    pub fn question6(&self, list: &[u32], points: bool, count: usize) -> Option<usize>
+        ensures { result ≡ spec.question6 (table self.now) (spec.numbers points list.now count) }
+    {
+        (0..count).find(|&k| !self.well_formed(number_at(list, points, k)))
+    }
+
+    // Question 7 of the first `count` numbers.
+    pub fn question7(&self, list: &[u32], points: bool, count: usize, t: TrainType) -> Option<usize>
+        ensures { result ≡ spec.question7 self.now.sets.now t (spec.numbers points list.now count) }
+    {
+        for k in 0..count {
+            let n = number_at(list, points, k);
+            // this is the refusal with number 7, at place k
+            let Some(_) = set_for(self.sets, n as usize, t) else {
+                return Some(k);
+            };
+        }
+        None
+    }
 }

@@ -6,7 +6,7 @@ ghost use Rattle.path.specs.Answers.{links_answer};
 
 use crate::answer::asked_each;
 use crate::path_tpc::Answer;
-use link::questions::{question4, question6, question7};
+use link::network::Network;
 use link::train_params::TrainType;
 
 // Question 5 was answered with fifth.
@@ -31,7 +31,19 @@ pub fn links_answer(
         (table_of links.now lengths.now sets.now elevs.now headings.now limits.now codes.now values.now powers.now districts.now) kind fifth
         (questions.numbers points list.now count) }
 {
-    let real = asked_each(4, question4(list, points, count, links, lengths, sets));
+    let network = Network {
+        links,
+        lengths,
+        sets,
+        elevs,
+        headings,
+        limits,
+        codes,
+        values,
+        powers,
+        districts,
+    };
+    let real = asked_each(4, network.question4(list, points, count));
     if real.number != 0 {
         return real;
     }
@@ -39,15 +51,9 @@ pub fn links_answer(
     if follow.number != 0 {
         return follow;
     }
-    let formed = asked_each(
-        6,
-        question6(
-            list, points, count, links, lengths, sets, elevs, headings, limits, codes, values,
-            powers, districts,
-        ),
-    );
+    let formed = asked_each(6, network.question6(list, points, count));
     if formed.number != 0 {
         return formed;
     }
-    asked_each(7, question7(list, points, count, sets, kind))
+    asked_each(7, network.question7(list, points, count, kind))
 }

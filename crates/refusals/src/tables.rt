@@ -2,6 +2,7 @@
 use crate::columns;
 use crate::columns::{cut_wholes, lent_reals, lent_wholes};
 use crate::fields::begins;
+use link::network::Network;
 use link::questions;
 use route::fields::{bytes_at, is_word};
 use show::{count, say};
@@ -27,20 +28,29 @@ fn ask(
     districts: &[u32],
 ) {
     let n = list.len();
-    if let Some(p) = questions::question4(list, false, n, links, lengths, sets) {
+    let network = Network {
+        links,
+        lengths,
+        sets,
+        elevs,
+        headings,
+        limits,
+        codes,
+        values,
+        powers,
+        districts,
+    };
+    if let Some(p) = network.question4(list, false, n) {
         return refused(4, p);
     }
     if let Some(p) = questions::question5(list, links, None) {
         return refused(5, p);
     }
-    if let Some(p) = questions::question6(
-        list, false, n, links, lengths, sets, elevs, headings, limits, codes, values, powers,
-        districts,
-    ) {
+    if let Some(p) = network.question6(list, false, n) {
         return refused(6, p);
     }
     let t = link::train_params::TrainType::Freight;
-    if let Some(p) = questions::question7(list, false, n, sets, t) {
+    if let Some(p) = network.question7(list, false, n, t) {
         return refused(7, p);
     }
     say(b" done")

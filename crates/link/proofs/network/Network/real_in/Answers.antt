@@ -1,7 +1,7 @@
 -- `real_in`: by the number.
 use Rattle.std.proofs.Common.{eq-eqb, ne_eqb}
 use Rattle.link.specs.Questions.{real_in}
-use Rattle.link.proofs.network.real_in.Goals as goal
+use Rattle.link.proofs.network.Network.real_in.Goals as goal
 
 pub returns-then-n-eq0 : goal.returns-then-n-eq0
 unfolding real_in
