@@ -8,7 +8,7 @@ use borrow.Author.Tests.{eqb-true, eqb-false, not-true}
 use Rattle.link.specs.declared.train_params.TrainParams.{TrainParams}
 use Rattle.link.specs.Train.{length_of}
 use Rattle.path.specs.declared.path_tpc.PathTpc.{PathTpc}
-use Rattle.path.specs.declared.path_tpc.Answer.{Answer}
+use Rattle.answer.specs.declared.Answer.{Answer}
 use Rattle.path.specs.Records.{Columns, Path, fits_grades, fits_curves, path_of, columns_of, record_of}
 use Rattle.path.specs.Answers.{is_done, ask, Outcome, outcome}
 use Rattle.path.specs.Sound.{path_finite, train_finite, within_bounds, sound, path_answer, is_open}

@@ -6,7 +6,7 @@ use lib.Dec.{eqb}
 use borrow.Author.Tests.{eqb-true, eqb-false}
 use Rattle.link.specs.declared.train_params.TrainParams.{TrainParams}
 use Rattle.path.specs.declared.path_tpc.PathTpc.{PathTpc}
-use Rattle.path.specs.declared.path_tpc.Answer.{Answer}
+use Rattle.answer.specs.declared.Answer.{Answer}
 use Rattle.path.specs.Records.{Columns, Path, path_of, columns_of}
 use Rattle.path.specs.Answers.{is_done, Outcome, outcome, changed}
 use Rattle.path.proofs.InTurn.{outcome-refused, outcome-changed}

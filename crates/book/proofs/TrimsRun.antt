@@ -7,10 +7,11 @@ use lib.Ieee.{Float}
 use borrow.Author.Tests.{eqb-true, eqb-false}
 use Rattle.link.specs.declared.train_params.TrainParams.{TrainParams}
 use Rattle.path.specs.declared.path_tpc.PathTpc.{PathTpc}
-use Rattle.path.specs.declared.path_tpc.Answer.{Answer}
+use Rattle.answer.specs.declared.Answer.{Answer}
 use Rattle.path.specs.declared.link_point.LinkPoint.{LinkPoint}
 use Rattle.path.specs.Records.{Columns, no_link_point, Path, path_of}
-use Rattle.path.specs.Answers.{done, is_done, Outcome, left, changed}
+use Rattle.answer.specs.Answers.{done}
+use Rattle.path.specs.Answers.{is_done, Outcome, left, changed}
 use Rattle.path.proofs.ReadBack.{counted}
 use Rattle.path_ends.specs.New.{new_of}
 use Rattle.path_clear.specs.Clear.{Cleared, clear_of}

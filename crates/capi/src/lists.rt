@@ -9,7 +9,7 @@ ghost use Rattle.resistance.specs.Walk.{walk_of};
 ghost use Rattle.capi.specs.Codes.{dir_of, directed};
 
 use crate::codes::{DirCode, dir_of};
-use path::answer::asked;
+use path::questions::asked;
 use resistance::listed::{CoeffAnswer, NetAnswer, Searched};
 use resistance::point::{Point, PointAnswer, PointRes};
 use resistance::strap::{Strap, StrapAnswer, StrapRes};

@@ -2,7 +2,7 @@
 ghost use Rattle.std.specs.Prelude.{◌≡◌};
 ghost use Rattle.path.specs.Answers.{is_done};
 
-use path::path_tpc::Answer;
+use answer::Answer;
 use show::{put, put_count};
 
 // What a question asks, for a call that it refused.

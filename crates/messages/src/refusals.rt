@@ -5,9 +5,10 @@ use crate::clauses::{apart_clause, clause_of};
 use crate::lines::call_name;
 use crate::outcomes::{refusal, refused_by};
 use crate::places::{link_named, place_named, type_named};
+use answer::Answer;
 use link::network::link_numbers;
 use link::train_params::{TrainParams, TrainType};
-use path::path_tpc::{Answer, PathTpc};
+use path::path_tpc::PathTpc;
 use route::kinds::{CLEAR, CURVES, EXTEND, GRADES, REINDEX};
 use show::{put, put_count, put_real};
 

@@ -11,10 +11,11 @@ use Rattle.link.specs.declared.train_params.TrainType.{TrainType}
 use Rattle.link.specs.Table.{LinkTable}
 use Rattle.link.specs.Questions.{question4, question6, question7}
 use Rattle.link.proofs.Known.{and_both}
-use Rattle.path.specs.declared.path_tpc.Answer.{Answer}
+use Rattle.answer.specs.declared.Answer.{Answer}
 use Rattle.path.specs.declared.path_tpc.PathTpc.{PathTpc}
 use Rattle.path.specs.Records.{Columns, Path, record_of, columns_of}
-use Rattle.path.specs.Answers.{done, ask, ask_each, in_turn, links_answer, changed, outcome, left}
+use Rattle.answer.specs.Answers.{done}
+use Rattle.path.specs.Answers.{ask, ask_each, in_turn, links_answer, changed, outcome, left}
 use Rattle.path.specs.Sound.{path_finite, sound, path_answer}
 
 -- r is the code's answer to the first question

@@ -8,6 +8,7 @@ pub mod Numbers
 pub mod Ordered
 pub mod PastCounts
 pub mod ReadBack
+pub mod Told
 pub mod Tidied
 pub mod Written
 pub mod Lasts

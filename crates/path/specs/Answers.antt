@@ -3,13 +3,11 @@ use Rattle.std.specs.Prelude.{ℕ, Bool, cond, List, [], ◌∷◌, eqb, Option,
 use Rattle.link.specs.declared.train_params.TrainType.{TrainType}
 use Rattle.link.specs.Table.{LinkTable}
 use Rattle.link.specs.Questions.{question4, question6, question7}
+use Rattle.answer.specs.Answers.{done}
 use Rattle.path.specs.declared.path_tpc.PathTpc.{PathTpc}
-use Rattle.path.specs.declared.path_tpc.Answer.{Answer}
+use Rattle.answer.specs.declared.Answer.{Answer}
 use Rattle.path.specs.declared.path_tpc.PathAnswer.{PathAnswer}
 use Rattle.path.specs.Records.{Columns, Path, record_of, columns_of}
-
-abbrev pub done : Answer
-done = record { number = 0; place = 0 }
 
 abbrev pub is_done : Answer → Bool
 is_done a = eqb a.number 0

@@ -10,6 +10,7 @@ use Rattle.speed.specs.Column.{pair, points}
 use Rattle.lookup.specs.declared.path_res_coeff.PathResCoeff.{PathResCoeff}
 use Rattle.lookup.specs.Coeff.{triple, coeffs, no_coeff}
 use Rattle.link.specs.Table.{PowerLimit, power_at}
+use Rattle.path.specs.declared.columns.PathColumns.{PathColumns}
 use Rattle.path.specs.declared.path_tpc.PathTpc.{PathTpc}
 use Rattle.path.specs.declared.link_point.LinkPoint.{LinkPoint}
 
@@ -31,6 +32,10 @@ pub record Columns : Type 0 where
 abbrev pub columns : List Float → List ℕ → List Float → List Float → List Float → List Float → List ℕ → Columns
 columns offsets numbers grades curves speeds powers districts =
     record { offsets = offsets; numbers = numbers; grades = grades; curves = curves; speeds = speeds; powers = powers; districts = districts }
+
+-- the columns as a call reads them
+abbrev pub lent : PathColumns → Columns
+lent c = columns c.offsets.now c.numbers.now c.grades.now c.curves.now c.speeds.now c.powers.now c.districts.now
 
 -- R12: 1,025 link points, 16,384 grades, 16,384 curves, 4,096 speed points, 1,024 power limits, or what a shorter column holds
 -- n is at most each of three figures

@@ -9,7 +9,7 @@ use Rattle.link.specs.declared.train_params.TrainParams.{TrainParams}
 use Rattle.link.specs.Lists.{every}
 use Rattle.link.specs.Train.{length_of, top_speed, towed_mass, mass_per_brake_of, curve0, curve1, curve2}
 use Rattle.path.specs.declared.path_tpc.PathTpc.{PathTpc}
-use Rattle.path.specs.declared.path_tpc.Answer.{Answer}
+use Rattle.answer.specs.declared.Answer.{Answer}
 use Rattle.path.specs.declared.link_point.LinkPoint.{LinkPoint}
 use Rattle.path.specs.Records.{Columns, fits_links, fits_grades, fits_curves, fits_speeds, fits_powers, link_point, offset_of, grade_count_of, curve_count_of, power_count_of, number_of, Path, link_point_at, end_point, last_coeff, path_of, record_of}
 use Rattle.path.specs.Answers.{ask, in_turn}

@@ -1,9 +1,10 @@
 // Question 1 of a path and of a train: their numbers are finite.
 ghost use Rattle.std.specs.Prelude.{◌≡◌, ◌*◌, ◌<◌, take};
 ghost use Rattle.ieee.specs.Number.{all_finite};
-ghost use Rattle.path.specs.Records.{columns};
+ghost use Rattle.path.specs.Records.{lent};
 ghost use Rattle.path.specs.Sound.{path_finite, train_finite};
 
+use crate::columns::PathColumns;
 use crate::path_tpc::PathTpc;
 use link::train_params::TrainParams;
 use lookup::path_res_coeff::coeffs_finite;
@@ -21,23 +22,14 @@ fn records_finite(col: &[f64], n: usize, w: usize) -> bool
 }
 
 // Question 1 of a path.
-pub fn path_finite(
-    p: PathTpc,
-    offsets: &[f64],
-    numbers: &[u32],
-    grades: &[f64],
-    curves: &[f64],
-    speeds: &[f64],
-    powers: &[f64],
-    districts: &[u32],
-) -> bool
-    ensures { result ≡ path_finite p (columns offsets.now numbers.now grades.now curves.now speeds.now powers.now districts.now) }
+pub fn path_finite(p: PathTpc, cols: &PathColumns) -> bool
+    ensures { result ≡ path_finite p (lent cols.now) }
 {
-    let links = column::all_finite(offsets, p.link_count);
-    let slopes = coeffs_finite(grades, p.grade_count, p.is_finished);
-    let bends = coeffs_finite(curves, p.curve_count, p.is_finished);
-    let limits = records_finite(speeds, p.speed_count, 2);
-    let drawn = records_finite(powers, p.power_count, 3);
+    let links = column::all_finite(cols.offsets, p.link_count);
+    let slopes = coeffs_finite(cols.grades, p.grade_count, p.is_finished);
+    let bends = coeffs_finite(cols.curves, p.curve_count, p.is_finished);
+    let limits = records_finite(cols.speeds, p.speed_count, 2);
+    let drawn = records_finite(cols.powers, p.power_count, 3);
     links & (slopes & (bends & (limits & drawn)))
 }
 

@@ -2,10 +2,10 @@
 ghost use Rattle.std.specs.Prelude.{◌≡◌};
 ghost use Rattle.link.specs.Table.{table_of};
 ghost use Rattle.link.specs.Questions as questions;
+ghost use Rattle.answer.specs.Answers.{answer};
 ghost use Rattle.path.specs.Answers.{links_answer};
 
-use crate::answer::asked_each;
-use crate::path_tpc::Answer;
+use answer::{Question, Refusal};
 use link::network::Network;
 use link::train_params::TrainType;
 
@@ -26,8 +26,8 @@ pub fn links_answer(
     powers: &[f64],
     districts: &[u32],
     kind: TrainType,
-) -> Answer
-    ensures { result ≡ links_answer
+) -> Result<(), Refusal>
+    ensures { answer result ≡ links_answer
         (table_of links.now lengths.now sets.now elevs.now headings.now limits.now codes.now values.now powers.now districts.now) kind fifth
         (questions.numbers points list.now count) }
 {
@@ -43,17 +43,9 @@ pub fn links_answer(
         powers,
         districts,
     };
-    let real = asked_each(4, network.question4(list, points, count));
-    if real.number != 0 {
-        return real;
-    }
-    let follow = asked_each(5, fifth);
-    if follow.number != 0 {
-        return follow;
-    }
-    let formed = asked_each(6, network.question6(list, points, count));
-    if formed.number != 0 {
-        return formed;
-    }
-    asked_each(7, network.question7(list, points, count, kind))
+    Question::InTable.ask_each(network.question4(list, points, count))?;
+    Question::Follows.ask_each(fifth)?;
+    let formed = network.question6(list, points, count);
+    Question::Formed.ask_each(formed)?;
+    Question::HasSet.ask_each(network.question7(list, points, count, kind))
 }

@@ -4,9 +4,10 @@ ghost use Rattle.ieee.specs.Number.{+0};
 ghost use Rattle.column.specs.Records.{record_at, two};
 ghost use Rattle.speed.specs.Column.{points};
 ghost use Rattle.lookup.specs.Coeff.{coeffs};
-ghost use Rattle.path.specs.Records.{columns, link_point, link_points, path_of, is_within_all};
+ghost use Rattle.path.specs.Records.{lent, link_point, link_points, path_of, is_within_all};
 ghost use Rattle.path.specs.Sound as spec;
 
+use crate::columns::PathColumns;
 use crate::link_point::{link_point_at, link_point_within};
 use crate::path_tpc::PathTpc;
 use lookup::path_res_coeff::offset_at;
@@ -26,23 +27,39 @@ pub fn within(n: usize, bound: usize, a: usize, b: usize) -> bool
 }
 
 // Counts within the columns and their bounds.
-pub fn within_bounds(
-    p: PathTpc,
-    offsets: &[f64],
-    numbers: &[u32],
-    grades: &[f64],
-    curves: &[f64],
-    speeds: &[f64],
-    powers: &[f64],
-    districts: &[u32],
-) -> bool
-    ensures { result ≡ spec.within_bounds p (columns offsets.now numbers.now grades.now curves.now speeds.now powers.now districts.now) }
+pub fn within_bounds(p: PathTpc, cols: &PathColumns) -> bool
+    ensures { result ≡ spec.within_bounds p (lent cols.now) }
 {
-    let links = within(p.link_count, 1025, offsets.len(), numbers.len() / 4);
-    let slopes = within(p.grade_count, 16384, grades.len() / 3, grades.len() / 3);
-    let bends = within(p.curve_count, 16384, curves.len() / 3, curves.len() / 3);
-    let limits = within(p.speed_count, 4096, speeds.len() / 2, speeds.len() / 2);
-    let drawn = within(p.power_count, 1024, powers.len() / 3, districts.len());
+    let links = within(
+        p.link_count,
+        1025,
+        cols.offsets.len(),
+        cols.numbers.len() / 4,
+    );
+    let slopes = within(
+        p.grade_count,
+        16384,
+        cols.grades.len() / 3,
+        cols.grades.len() / 3,
+    );
+    let bends = within(
+        p.curve_count,
+        16384,
+        cols.curves.len() / 3,
+        cols.curves.len() / 3,
+    );
+    let limits = within(
+        p.speed_count,
+        4096,
+        cols.speeds.len() / 2,
+        cols.speeds.len() / 2,
+    );
+    let drawn = within(
+        p.power_count,
+        1024,
+        cols.powers.len() / 3,
+        cols.districts.len(),
+    );
     links & (slopes & (bends & (limits & drawn)))
 }
 
@@ -197,55 +214,34 @@ fn end_counts_zero(offsets: &[f64], numbers: &[u32], n: usize) -> bool
 }
 
 // The clauses of question 2 that follow once the counts lie within the columns.
-fn sound_path(
-    p: PathTpc,
-    offsets: &[f64],
-    numbers: &[u32],
-    grades: &[f64],
-    curves: &[f64],
-    speeds: &[f64],
-    powers: &[f64],
-    districts: &[u32],
-) -> bool
+fn sound_path(p: PathTpc, cols: &PathColumns) -> bool
     requires p_value { spec.one_of_each p ≡ true }
-    requires districts_value { spec.within_bounds p (columns offsets.now numbers.now grades.now curves.now speeds.now powers.now districts.now) ≡ true }
-    ensures { result ≡ spec.sound_path (path_of p (columns offsets.now numbers.now grades.now curves.now speeds.now powers.now districts.now)) }
+    requires in_columns { spec.within_bounds p (lent cols.now) ≡ true }
+    ensures { result ≡ spec.sound_path (path_of p (lent cols.now)) }
 {
     let n = p.link_count;
-    let closed = closes(grades, p.grade_count) & closes(curves, p.curve_count);
-    let links = end_counts_zero(offsets, numbers, n)
-        & (offsets_rise(offsets, numbers, n) & numbers_real(offsets, numbers, n));
+    let closed = closes(cols.grades, p.grade_count) & closes(cols.curves, p.curve_count);
+    let links = end_counts_zero(cols.offsets, cols.numbers, n)
+        & (offsets_rise(cols.offsets, cols.numbers, n)
+            & numbers_real(cols.offsets, cols.numbers, n));
     let sorted = sorted_from(
-        speeds,
+        cols.speeds,
         p.speed_count,
-        link_point_at(offsets, numbers, 0).offset,
+        link_point_at(cols.offsets, cols.numbers, 0).offset,
     );
-    let lead = counts_lead(p, offsets, numbers, grades, curves);
+    let lead = counts_lead(p, cols.offsets, cols.numbers, cols.grades, cols.curves);
     lead & ((!p.is_finished | closed) & (links & sorted))
 }
 
 // Question 2 of a path.
-pub fn path_sound(
-    p: PathTpc,
-    offsets: &[f64],
-    numbers: &[u32],
-    grades: &[f64],
-    curves: &[f64],
-    speeds: &[f64],
-    powers: &[f64],
-    districts: &[u32],
-) -> bool
-    ensures { result ≡ spec.sound p (columns offsets.now numbers.now grades.now curves.now speeds.now powers.now districts.now) }
+pub fn path_sound(p: PathTpc, cols: &PathColumns) -> bool
+    ensures { result ≡ spec.sound p (lent cols.now) }
 {
     if !one_of_each(p) {
         return false;
     }
-    if !within_bounds(
-        p, offsets, numbers, grades, curves, speeds, powers, districts,
-    ) {
+    if !within_bounds(p, cols) {
         return false;
     }
-    sound_path(
-        p, offsets, numbers, grades, curves, speeds, powers, districts,
-    )
+    sound_path(p, cols)
 }

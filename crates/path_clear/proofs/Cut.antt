@@ -17,7 +17,8 @@ use Rattle.lookup.proofs.Coeffs.{triple-lawful}
 use Rattle.path.specs.declared.path_tpc.PathTpc.{PathTpc}
 use Rattle.path.specs.declared.link_point.LinkPoint.{LinkPoint}
 use Rattle.path.specs.Records.{Columns, columns, offset_of, four_of, grade_count_of, curve_count_of, power_count_of, link_points, no_link_point, three_of, power_limits, Path, path_of, columns_of, record_of}
-use Rattle.path.specs.Answers.{done, left, changed}
+use Rattle.answer.specs.Answers.{done}
+use Rattle.path.specs.Answers.{left, changed}
 use Rattle.path.specs.Sound.{totals, sound}
 use Rattle.path.proofs.LinkPoints.{length-links, link_at}
 use Rattle.path.proofs.Counts.{total-fewer}

@@ -10,10 +10,11 @@ use lib.Ieee.{Float}
 use lib.Ieee.Scale.{finite}
 use borrow.Author.Tests.{eq-eqb, eqb-true, eqb-false}
 use Rattle.path.specs.declared.path_tpc.PathTpc.{PathTpc}
-use Rattle.path.specs.declared.path_tpc.Answer.{Answer}
+use Rattle.answer.specs.declared.Answer.{Answer}
 use Rattle.path.specs.declared.link_point.LinkPoint.{LinkPoint}
 use Rattle.path.specs.Records.{Columns, link_points, no_link_point, Path, path_of, record_of, columns_of}
-use Rattle.path.specs.Answers.{done, is_done, ask, in_turn, Outcome, left, changed}
+use Rattle.answer.specs.Answers.{done}
+use Rattle.path.specs.Answers.{is_done, ask, in_turn, Outcome, left, changed}
 use Rattle.path.specs.Sound.{one_of_each, path_finite, sound_path, sound, path_answer, totals}
 use Rattle.path.proofs.InTurn.{turn-no, turn-yes, first-no, first-yes, judged-else, judged-2, outcome-changed}
 use Rattle.path.proofs.ReadBack.{counted, read_back}

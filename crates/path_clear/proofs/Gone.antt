@@ -15,10 +15,11 @@ use borrow.Author.Tests.{eq-eqb, ne_eqb, eqb-true, eqb-false, leb-true}
 use Rattle.ieee.specs.Number.{+0}
 use Rattle.ieee.proofs.Order.{of-true}
 use Rattle.link.proofs.Known.{and_both}
-use Rattle.path.specs.declared.path_tpc.Answer.{Answer}
+use Rattle.answer.specs.declared.Answer.{Answer}
 use Rattle.path.specs.declared.link_point.LinkPoint.{LinkPoint}
 use Rattle.path.specs.Records.{offset_of, link_points, link_point_at, end_point}
-use Rattle.path.specs.Answers.{done, is_done, ask}
+use Rattle.answer.specs.Answers.{done}
+use Rattle.path.specs.Answers.{is_done, ask}
 use Rattle.path.proofs.LinkPoints.{length-links, links_from, links-drop}
 use Rattle.path.proofs.InTurn.{first-no, first-yes, first_done, last_one}
 use Rattle.path_clear.specs.Clear.{drop_count, in_range}

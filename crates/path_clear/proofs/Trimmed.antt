@@ -8,10 +8,11 @@ use lib.ListN.{take}
 use lib.Ieee.{Float}
 use borrow.Author.Tests.{eq-eqb, ne_eqb}
 use Rattle.path.specs.declared.path_tpc.PathTpc.{PathTpc}
-use Rattle.path.specs.declared.path_tpc.Answer.{Answer}
+use Rattle.answer.specs.declared.Answer.{Answer}
 use Rattle.path.specs.declared.link_point.LinkPoint.{LinkPoint}
 use Rattle.path.specs.Records.{Columns, link_points, no_link_point, path_of, columns_of}
-use Rattle.path.specs.Answers.{Outcome, done, left, changed}
+use Rattle.answer.specs.Answers.{done}
+use Rattle.path.specs.Answers.{Outcome, left, changed}
 use Rattle.path.specs.Sound.{totals}
 use Rattle.path.proofs.LinkPoints.{length-links}
 use Rattle.path.proofs.Numbers.{take-links}

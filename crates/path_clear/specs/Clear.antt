@@ -4,7 +4,7 @@ use Rattle.std.specs.Float.Ieee as Ieee
 use Rattle.std.specs.Float.Ieee.Scale.{finite}
 use Rattle.speed.specs.Clear.{clear_points}
 use Rattle.path.specs.declared.path_tpc.PathTpc.{PathTpc}
-use Rattle.path.specs.declared.path_tpc.Answer.{Answer}
+use Rattle.answer.specs.declared.Answer.{Answer}
 use Rattle.path.specs.declared.link_point.LinkPoint.{LinkPoint}
 use Rattle.path.specs.Records.{Columns, Path, offset_of, grade_count_of, curve_count_of, power_count_of, no_link_point, link_point_at, end_point, path_of}
 use Rattle.path.specs.Answers.{is_done, ask, in_turn, Outcome, outcome}

@@ -2,10 +2,11 @@
 use Rattle.std.specs.Prelude.{ℕ, ◌+◌, true, cond, List, [], ◌∷◌, Float}
 use Rattle.ieee.specs.Number.{+0}
 use Rattle.path.specs.declared.path_tpc.PathTpc.{PathTpc}
-use Rattle.path.specs.declared.path_tpc.Answer.{Answer}
+use Rattle.answer.specs.declared.Answer.{Answer}
 use Rattle.path.specs.declared.link_point.LinkPoint.{LinkPoint}
 use Rattle.path.specs.Records.{Columns, link_point, grade_count_of, curve_count_of, power_count_of, no_link_point, path_of}
-use Rattle.path.specs.Answers.{done, is_done, left, changed}
+use Rattle.answer.specs.Answers.{done}
+use Rattle.path.specs.Answers.{is_done, left, changed}
 use Rattle.path.specs.Sound.{path_answer}
 use Rattle.path_clear.specs.Clear.{Cleared, clear_of}
 

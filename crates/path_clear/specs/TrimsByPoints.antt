@@ -2,10 +2,11 @@
 use Rattle.std.specs.Prelude.{ℕ, ◌+◌, Bool, true, cond, List, [], ◌∷◌, leb, length, drop, Float}
 use Rattle.std.specs.Float.Ieee.Scale.{finite}
 use Rattle.path.specs.declared.path_tpc.PathTpc.{PathTpc}
-use Rattle.path.specs.declared.path_tpc.Answer.{Answer}
+use Rattle.answer.specs.declared.Answer.{Answer}
 use Rattle.path.specs.declared.link_point.LinkPoint.{LinkPoint}
 use Rattle.path.specs.Records.{Columns, link_points}
-use Rattle.path.specs.Answers.{done, is_done, ask, in_turn}
+use Rattle.answer.specs.Answers.{done}
+use Rattle.path.specs.Answers.{is_done, ask, in_turn}
 use Rattle.path.specs.Sound.{path_answer}
 use Rattle.path_clear.specs.Clear.{drop_count, in_range}
 use Rattle.path_clear.specs.declared.clear_each.Progress.{Progress}

@@ -1,13 +1,16 @@
 // `clear`: the links behind an offset go.
 ghost use Rattle.std.specs.Prelude.{◌≡◌, true, ◌+◌, ◌<◌, take, drop};
-ghost use Rattle.path.specs.Records.{columns, link_points, path_of};
+ghost use Rattle.answer.specs.Answers.{answer};
+ghost use Rattle.path.specs.Records.{columns, lent, link_points, path_of};
 ghost use Rattle.path.specs.Answers.{Outcome, left, changed};
 ghost use Rattle.path.specs.Sound.{sound, totals};
 ghost use Rattle.path_clear.specs.Clear as spec;
 
-use path::answer::{asked, done, path_answer};
+use answer::{Answer, Question, Refusal};
+use path::columns::PathColumns;
 use path::link_point::{LinkPoint, add_counts};
-use path::path_tpc::{Answer, PathAnswer, PathTpc};
+use path::path_tpc::{PathAnswer, PathTpc};
+use path::questions::{done, path_answer};
 use path::rest::zero_rest;
 use si::Length;
 use speed::clear::clear_points;
@@ -45,30 +48,12 @@ fn in_range(offsets: &[f64], numbers: &[u32], n: usize, x: Length) -> bool
 }
 
 // Questions 1, 2, 10 and 12.
-fn clear_answer(
-    p: PathTpc,
-    x: Length,
-    offsets: &[f64],
-    numbers: &[u32],
-    grades: &[f64],
-    curves: &[f64],
-    speeds: &[f64],
-    powers: &[f64],
-    districts: &[u32],
-) -> Answer
-    ensures { result ≡ spec.clear_answer x.0 p (columns offsets.now numbers.now grades.now curves.now speeds.now powers.now districts.now) }
+fn clear_answer(p: PathTpc, x: Length, cols: &PathColumns) -> Result<(), Refusal>
+    ensures { answer result ≡ spec.clear_answer x.0 p (lent cols.now) }
 {
-    let finite = ieee::is_finite(x.0);
-    let first = path_answer(
-        p, finite, offsets, numbers, grades, curves, speeds, powers, districts,
-    );
-    if first.number != 0 {
-        return first;
-    }
-    if !in_range(offsets, numbers, p.link_count, x) {
-        return asked(10, false);
-    }
-    asked(12, 2 <= p.link_count)
+    path_answer(p, ieee::is_finite(x.0), cols)?;
+    Question::InRange.ask(in_range(cols.offsets, cols.numbers, p.link_count, x))?;
+    Question::Drops.ask(2 <= p.link_count)
 }
 
 // The path without its first d links, whose counts are dropped.
@@ -189,17 +174,16 @@ pub fn clear(
         })
         (spec.clear_of x.0 p (columns offsets.old numbers.old grades.old curves.old speeds.old powers.old districts.old)) }
 {
-    let answer = clear_answer(
-        p,
-        x,
-        &*offsets,
-        &*numbers,
-        &*grades,
-        &*curves,
-        &*speeds,
-        &*powers,
-        &*districts,
-    );
+    let cols = PathColumns {
+        offsets: &*offsets,
+        numbers: &*numbers,
+        grades: &*grades,
+        curves: &*curves,
+        speeds: &*speeds,
+        powers: &*powers,
+        districts: &*districts,
+    };
+    let answer = Answer::from(clear_answer(p, x, &cols));
     if answer.number != 0 {
         return ClearAnswer {
             outcome: PathAnswer { answer, path: p },

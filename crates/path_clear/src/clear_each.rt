@@ -1,15 +1,18 @@
 // `clear` at one offset after another, all or nothing: questions 1 and 2 of the path are asked once, and the records move once.
 ghost use Rattle.std.specs.Prelude.{◌≡◌, ◌<◌, drop};
-ghost use Rattle.path.specs.Records.{columns, link_points};
+ghost use Rattle.answer.specs.Answers.{answer};
+ghost use Rattle.path.specs.Records.{columns, lent, link_points};
 ghost use Rattle.path.specs.Answers.{left};
 ghost use Rattle.path_clear.specs.Clear.{Cleared};
 ghost use Rattle.path_clear.specs.TrimsByPoints as spec;
 ghost use Rattle.path_clear.specs.Trims.{clear_each};
 
 use crate::clear::{ClearAnswer, cleared, drop_from};
-use path::answer::{asked, done, path_answer};
+use answer::{Answer, Question, Refusal};
+use path::columns::PathColumns;
 use path::link_point::{LinkPoint, add_counts};
-use path::path_tpc::{Answer, PathAnswer, PathTpc};
+use path::path_tpc::{PathAnswer, PathTpc};
+use path::questions::{done, path_answer};
 
 // How far the trims of a list get: so many link points go, where none is refused; and the answer.
 #[derive(Clone, Copy)]
@@ -19,19 +22,21 @@ struct Progress {
 }
 
 // Questions 1, 10 and 12 of a trim behind x, where `from` of n link points are gone.
-fn trim_answer(offsets: &[f64], numbers: &[u32], n: usize, from: usize, x: f64) -> Answer
+fn trim_answer(
+    offsets: &[f64],
+    numbers: &[u32],
+    n: usize,
+    from: usize,
+    x: f64,
+) -> Result<(), Refusal>
     requires { from < n }
-    ensures { result ≡ spec.trim_answer x (drop from (link_points n offsets.now numbers.now)) }
+    ensures { answer result ≡ spec.trim_answer x (drop from (link_points n offsets.now numbers.now)) }
 {
-    if !ieee::is_finite(x) {
-        return asked(1, false);
-    }
+    Question::Finite.ask(ieee::is_finite(x))?;
     let first = column::get(offsets, from);
     let last = column::get(offsets, n - 1);
-    if !((first <= x) & (x <= last)) {
-        return asked(10, false);
-    }
-    asked(12, 2 <= n - from)
+    Question::InRange.ask((first <= x) & (x <= last))?;
+    Question::Drops.ask(2 <= n - from)
 }
 
 // The trims of a sound path with n link points, without moving anything.
@@ -41,7 +46,7 @@ fn going(xs: &[f64], offsets: &[f64], numbers: &[u32], n: usize) -> Progress
 {
     let mut gone = 0;
     for (k, x) in xs.iter().enumerate() {
-        let answer = trim_answer(offsets, numbers, n, gone, *x);
+        let answer = Answer::from(trim_answer(offsets, numbers, n, gone, *x));
         if answer.number != 0 {
             return Progress {
                 gone,
@@ -70,30 +75,17 @@ fn first_finite(xs: &[f64]) -> bool
 }
 
 // Every question of a list of trims: 1 and 2 of the path once, and then those of each trim in turn.
-fn judge_trims(
-    p: PathTpc,
-    xs: &[f64],
-    offsets: &[f64],
-    numbers: &[u32],
-    grades: &[f64],
-    curves: &[f64],
-    speeds: &[f64],
-    powers: &[f64],
-    districts: &[u32],
-) -> Progress
-    ensures { result ≡ spec.progress_of xs.now p (columns offsets.now numbers.now grades.now curves.now speeds.now powers.now districts.now) }
+fn judge_trims(p: PathTpc, xs: &[f64], cols: &PathColumns) -> Progress
+    ensures { result ≡ spec.progress_of xs.now p (lent cols.now) }
 {
-    let finite = first_finite(xs);
-    let first = path_answer(
-        p, finite, offsets, numbers, grades, curves, speeds, powers, districts,
-    );
+    let first = Answer::from(path_answer(p, first_finite(xs), cols));
     if first.number != 0 {
         return Progress {
             gone: 0,
             answer: first,
         };
     }
-    going(xs, offsets, numbers, p.link_count)
+    going(xs, cols.offsets, cols.numbers, p.link_count)
 }
 
 // Drops the links behind each offset of a list in turn: all of them, or none where a trim is refused.
@@ -116,17 +108,16 @@ pub fn clear_each(
         })
         (clear_each xs.now p (columns offsets.old numbers.old grades.old curves.old speeds.old powers.old districts.old)) }
 {
-    let g = judge_trims(
-        p,
-        xs,
-        &*offsets,
-        &*numbers,
-        &*grades,
-        &*curves,
-        &*speeds,
-        &*powers,
-        &*districts,
-    );
+    let cols = PathColumns {
+        offsets: &*offsets,
+        numbers: &*numbers,
+        grades: &*grades,
+        curves: &*curves,
+        speeds: &*speeds,
+        powers: &*powers,
+        districts: &*districts,
+    };
+    let g = judge_trims(p, xs, &cols);
     let answer = g.answer;
     if answer.number != 0 {
         return ClearAnswer {

@@ -15,9 +15,10 @@ use Rattle.lookup.specs.Coeff.{triple, no_coeff, coeffs}
 use Rattle.lookup.proofs.Coeffs.{triple-lawful}
 use Rattle.link.proofs.Known.{and_both}
 use Rattle.path.specs.declared.path_tpc.PathTpc.{PathTpc}
-use Rattle.path.specs.declared.path_tpc.Answer.{Answer}
+use Rattle.answer.specs.declared.Answer.{Answer}
 use Rattle.path.specs.Records.{Columns, columns, fits_grades, fits_curves, last_coeff, path_of, columns_of, record_of}
-use Rattle.path.specs.Answers.{ask, done, left}
+use Rattle.answer.specs.Answers.{done}
+use Rattle.path.specs.Answers.{ask, left}
 use Rattle.path.specs.Sound.{sound, path_answer, is_open}
 use Rattle.path.proofs.ReadBack.{counted}
 use Rattle.path.proofs.InTurn.{turn-no, turn-yes, turn-done, first-no, first-yes, first_done, last_one, judged-done, outcome-refused, outcome-done}

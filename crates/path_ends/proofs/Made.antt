@@ -13,10 +13,11 @@ use Rattle.speed.proofs.PointColumn.{one-point}
 use Rattle.link.specs.declared.train_params.TrainParams.{TrainParams}
 use Rattle.link.specs.Train.{top_speed}
 use Rattle.path.specs.declared.path_tpc.PathTpc.{PathTpc}
-use Rattle.path.specs.declared.path_tpc.Answer.{Answer}
+use Rattle.answer.specs.declared.Answer.{Answer}
 use Rattle.path.specs.declared.path_tpc.PathAnswer.{PathAnswer}
 use Rattle.path.specs.Records.{Columns, columns, columns_of, record_of}
-use Rattle.path.specs.Answers.{done, ask, outcome, left}
+use Rattle.answer.specs.Answers.{done}
+use Rattle.path.specs.Answers.{ask, outcome, left}
 use Rattle.path.specs.Sound.{train_finite, within_bounds}
 use Rattle.path.proofs.InTurn.{first-no, first-yes, last_one, outcome-refused, outcome-done}
 use Rattle.path.proofs.Clauses.{room}

@@ -4,7 +4,7 @@ use Rattle.ieee.specs.Number.{+0, +∞}
 use Rattle.lookup.specs.declared.path_res_coeff.PathResCoeff.{PathResCoeff}
 use Rattle.lookup.specs.Coeff.{res_coeff_record, net_of}
 use Rattle.path.specs.declared.path_tpc.PathTpc.{PathTpc}
-use Rattle.path.specs.declared.path_tpc.Answer.{Answer}
+use Rattle.answer.specs.declared.Answer.{Answer}
 use Rattle.path.specs.Records.{Columns, Path, fits_grades, fits_curves, last_coeff, path_of}
 use Rattle.path.specs.Answers.{ask, in_turn, Outcome, outcome}
 use Rattle.path.specs.Sound.{path_answer, is_open}

@@ -6,7 +6,7 @@ use Rattle.lookup.specs.Coeff.{no_coeff}
 use Rattle.link.specs.declared.train_params.TrainParams.{TrainParams}
 use Rattle.link.specs.Train.{top_speed}
 use Rattle.path.specs.declared.path_tpc.PathTpc.{PathTpc}
-use Rattle.path.specs.declared.path_tpc.Answer.{Answer}
+use Rattle.answer.specs.declared.Answer.{Answer}
 use Rattle.path.specs.declared.path_tpc.PathAnswer.{PathAnswer}
 use Rattle.path.specs.Records.{Columns, Path, no_link_point}
 use Rattle.path.specs.Answers.{ask, in_turn, Outcome, outcome}

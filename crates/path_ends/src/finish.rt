@@ -2,13 +2,16 @@
 ghost use Rattle.std.specs.Prelude.{◌≡◌, ◌-◌, ◌<◌, ◌≤◌};
 ghost use Rattle.column.specs.Records.{record_at, put_record};
 ghost use Rattle.lookup.specs.Coeff.{triple};
-ghost use Rattle.path.specs.Records.{columns};
+ghost use Rattle.answer.specs.Answers.{answer};
+ghost use Rattle.path.specs.Records.{columns, lent};
 ghost use Rattle.path.specs.Answers.{Outcome, left};
 ghost use Rattle.path_ends.specs.Finish.{closing_after, closed_record, finish_answer, finish_of};
 
+use answer::{Answer, Question, Refusal};
 use lookup::path_res_coeff::{PathResCoeff, coeff_at, put_coeff};
-use path::answer::{asked, path_answer};
-use path::path_tpc::{Answer, PathAnswer, PathTpc};
+use path::columns::PathColumns;
+use path::path_tpc::{PathAnswer, PathTpc};
+use path::questions::path_answer;
 use path::rest::zero_rest;
 use path::sound::within;
 use si::{Length, Ratio};
@@ -28,30 +31,24 @@ fn close(col: &mut [f64], m: usize)
 }
 
 // Questions 1, 2, 3 and 9.
-fn finish_answer(
-    p: PathTpc,
-    offsets: &[f64],
-    numbers: &[u32],
-    grades: &[f64],
-    curves: &[f64],
-    speeds: &[f64],
-    powers: &[f64],
-    districts: &[u32],
-) -> Answer
-    ensures { result ≡ finish_answer p (columns offsets.now numbers.now grades.now curves.now speeds.now powers.now districts.now) }
+fn finish_answer(p: PathTpc, cols: &PathColumns) -> Result<(), Refusal>
+    ensures { answer result ≡ finish_answer p (lent cols.now) }
 {
-    let first = path_answer(
-        p, true, offsets, numbers, grades, curves, speeds, powers, districts,
+    path_answer(p, true, cols)?;
+    Question::Open.ask(!p.is_finished)?;
+    let slopes = within(
+        p.grade_count + 1,
+        16384,
+        cols.grades.len() / 3,
+        cols.grades.len() / 3,
     );
-    if first.number != 0 {
-        return first;
-    }
-    if p.is_finished {
-        return asked(3, false);
-    }
-    let slopes = within(p.grade_count + 1, 16384, grades.len() / 3, grades.len() / 3);
-    let bends = within(p.curve_count + 1, 16384, curves.len() / 3, curves.len() / 3);
-    asked(9, slopes & bends)
+    let bends = within(
+        p.curve_count + 1,
+        16384,
+        cols.curves.len() / 3,
+        cols.curves.len() / 3,
+    );
+    Question::Room.ask(slopes & bends)
 }
 
 // The path's record with one grade and one curve more, finished.
@@ -85,16 +82,16 @@ pub fn finish(
         (left result (columns offsets.new numbers.new grades.new curves.new speeds.new powers.new districts.new))
         (finish_of p (columns offsets.old numbers.old grades.old curves.old speeds.old powers.old districts.old)) }
 {
-    let answer = finish_answer(
-        p,
-        &*offsets,
-        &*numbers,
-        &*grades,
-        &*curves,
-        &*speeds,
-        &*powers,
-        &*districts,
-    );
+    let cols = PathColumns {
+        offsets: &*offsets,
+        numbers: &*numbers,
+        grades: &*grades,
+        curves: &*curves,
+        speeds: &*speeds,
+        powers: &*powers,
+        districts: &*districts,
+    };
+    let answer = Answer::from(finish_answer(p, &cols));
     if answer.number != 0 {
         return PathAnswer { answer, path: p };
     }

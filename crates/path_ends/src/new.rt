@@ -4,11 +4,12 @@ ghost use Rattle.path.specs.Records.{columns};
 ghost use Rattle.path.specs.Answers.{Outcome, left};
 ghost use Rattle.path_ends.specs.New.{start, refused_new, new_of};
 
-use column::Two;
-use column::put_record;
+use answer::Answer;
+use column::{Two, put_record};
 use link::train_params::TrainParams;
+use path::columns::PathColumns;
 use path::finite::train_finite;
-use path::path_tpc::{Answer, PathAnswer, PathTpc};
+use path::path_tpc::{PathAnswer, PathTpc};
 use path::sound::within_bounds;
 
 // The record of a path without links.
@@ -61,16 +62,16 @@ pub fn new(
         return refused(1);
     }
     let path = start_record();
-    if !within_bounds(
-        path,
-        &*offsets,
-        &*numbers,
-        &*grades,
-        &*curves,
-        &*speeds,
-        &*powers,
-        &*districts,
-    ) {
+    let cols = PathColumns {
+        offsets: &*offsets,
+        numbers: &*numbers,
+        grades: &*grades,
+        curves: &*curves,
+        speeds: &*speeds,
+        powers: &*powers,
+        districts: &*districts,
+    };
+    if !within_bounds(path, &cols) {
         return refused(9);
     }
     column::zero_from(&mut *offsets, 0);

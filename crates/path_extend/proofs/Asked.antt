@@ -19,10 +19,11 @@ use Rattle.link.specs.Table.{LinkTable}
 use Rattle.link.specs.Questions.{numbers, question5, well_formed}
 use Rattle.link.proofs.Known.{and_both, all-formed, numbers-plain}
 use Rattle.path.specs.declared.path_tpc.PathTpc.{PathTpc}
-use Rattle.path.specs.declared.path_tpc.Answer.{Answer}
+use Rattle.answer.specs.declared.Answer.{Answer}
 use Rattle.path.specs.declared.link_point.LinkPoint.{LinkPoint}
 use Rattle.path.specs.Records.{Columns, offset_of, number_of, link_points, point_at, no_link_point, link_point_at, path_of, fits_links, fits_grades, fits_curves, fits_speeds, fits_powers}
-use Rattle.path.specs.Answers.{done, ask, ask_each, in_turn, links_answer}
+use Rattle.answer.specs.Answers.{done}
+use Rattle.path.specs.Answers.{ask, ask_each, in_turn, links_answer}
 use Rattle.path.specs.Sound.{train_finite, sound, path_answer, is_open}
 use Rattle.path.proofs.LinkPoints.{length-links, link_at, end-at}
 use Rattle.path.proofs.InTurn.{turn-no, turn-yes, turn-done, turn-none, first-no, first-yes, first_done, last_one, judged-done, links-done, turn_last}

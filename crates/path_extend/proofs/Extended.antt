@@ -6,7 +6,7 @@ use mathlib.Core.List.{List}
 use Rattle.link.specs.declared.train_params.TrainParams.{TrainParams}
 use Rattle.link.specs.Table.{LinkTable}
 use Rattle.path.specs.declared.path_tpc.PathTpc.{PathTpc}
-use Rattle.path.specs.declared.path_tpc.Answer.{Answer}
+use Rattle.answer.specs.declared.Answer.{Answer}
 use Rattle.path.specs.Records.{Columns, Path, path_of, columns_of}
 use Rattle.path.specs.Answers.{left, changed}
 use Rattle.path.specs.Sound.{sound, within_bounds}

@@ -7,7 +7,7 @@ use Rattle.link.specs.Train.{length_of}
 use Rattle.link.specs.Table.{LinkTable}
 use Rattle.link.specs.Questions.{question5}
 use Rattle.path.specs.declared.path_tpc.PathTpc.{PathTpc}
-use Rattle.path.specs.declared.path_tpc.Answer.{Answer}
+use Rattle.answer.specs.declared.Answer.{Answer}
 use Rattle.path.specs.declared.link_point.LinkPoint.{LinkPoint}
 use Rattle.path.specs.Records.{Columns, number_of, link_point_at, path_of}
 use Rattle.path.specs.Answers.{ask, ask_each, in_turn, links_answer, Outcome, outcome}

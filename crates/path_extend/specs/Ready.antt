@@ -11,7 +11,7 @@ use Rattle.link.specs.Questions.{well_formed}
 use Rattle.path.specs.declared.path_tpc.PathTpc.{PathTpc}
 use Rattle.path.specs.declared.path_tpc.PathAnswer.{PathAnswer}
 use Rattle.path.specs.Records.{Columns, path_of, columns_of}
-use Rattle.path.specs.Answers.{done}
+use Rattle.answer.specs.Answers.{done}
 use Rattle.path_speeds.specs.Limits.{sets_of, few_at}
 use Rattle.path_join.specs.Joined.{starting_net}
 use Rattle.path_join.specs.declared.path_end.PathEnd.{PathEnd}

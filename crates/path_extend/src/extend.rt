@@ -10,14 +10,16 @@ ghost use Rattle.path_join.specs.Joined.{started, join_all};
 ghost use Rattle.path_extend.specs.Extend as spec;
 ghost use Rattle.path_extend.specs.Ready as ready;
 
+use answer::Answer;
 use link::questions::question5;
 use link::train_params::TrainParams;
 use lookup::path_res_coeff::coeff_at;
-use path::answer::{asked, asked_each, path_answer};
+use path::columns::PathColumns;
 use path::finite::train_finite;
 use path::link_point::link_point_at;
 use path::links::links_answer;
-use path::path_tpc::{Answer, PathAnswer, PathTpc};
+use path::path_tpc::{PathAnswer, PathTpc};
+use path::questions::{asked, asked_each, path_answer};
 use path::rest::zero_rest;
 use path_join::fit::records_fit;
 use path_join::join::{join_points, join_powers, join_records, start_net, starting_net};
@@ -176,9 +178,7 @@ fn extend_answer(
         (table_of links.now lengths.now sets.now elevs.now headings.now limits.now codes.now values.now link_powers.now link_districts.now) list.now p
         (columns offsets.now numbers.now grades.now curves.now speeds.now powers.now districts.now) }
 {
-    let first = path_answer(
-        p,
-        train_finite(train),
+    let cols = PathColumns {
         offsets,
         numbers,
         grades,
@@ -186,7 +186,8 @@ fn extend_answer(
         speeds,
         powers,
         districts,
-    );
+    };
+    let first = Answer::from(path_answer(p, train_finite(train), &cols));
     if first.number != 0 {
         return first;
     }
@@ -195,7 +196,7 @@ fn extend_answer(
         return asked(3, false);
     }
     let kind = train.train_type;
-    let named = links_answer(
+    let named = Answer::from(links_answer(
         list,
         false,
         list.len(),
@@ -211,7 +212,7 @@ fn extend_answer(
         link_powers,
         link_districts,
         kind,
-    );
+    ));
     if named.number != 0 {
         return named;
     }

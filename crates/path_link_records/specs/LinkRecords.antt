@@ -1,7 +1,7 @@
 -- The grade or curve records of a link, R58 and R82: the part of the caller's column that link k counts. Definitions only.
 use Rattle.std.specs.Prelude.{ℕ, ◌+◌, ◌*◌, Bool, true, false, cond, List, [], ◌∷◌, ltb, take, drop, Float}
 use Rattle.path.specs.declared.path_tpc.PathTpc.{PathTpc}
-use Rattle.path.specs.declared.path_tpc.Answer.{Answer}
+use Rattle.answer.specs.declared.Answer.{Answer}
 use Rattle.path.specs.declared.link_point.LinkPoint.{LinkPoint}
 use Rattle.path.specs.Records.{Columns, link_point_at, path_of}
 use Rattle.path.specs.Answers.{is_done, ask, in_turn}

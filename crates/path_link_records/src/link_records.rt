@@ -1,12 +1,15 @@
 // The grade or curve records of a link, handed back as that part of the caller's column.
 ghost use Rattle.std.specs.Prelude.{◌≡◌, ◌+◌, ◌*◌, ◌<◌, ◌≤◌, length};
-ghost use Rattle.path.specs.Records.{columns, link_points};
+ghost use Rattle.answer.specs.Answers.{answer};
+ghost use Rattle.path.specs.Records.{columns, lent, link_points};
 ghost use Rattle.path.specs.Sound.{count_of, total};
 ghost use Rattle.path_link_records.specs.LinkRecords as spec;
 
-use path::answer::{asked, path_answer};
+use answer::{Answer, Question, Refusal};
+use path::columns::PathColumns;
 use path::link_point::{add_counts, count_of, link_point_at};
-use path::path_tpc::{Answer, PathTpc};
+use path::path_tpc::PathTpc;
+use path::questions::path_answer;
 
 // A range of a column's entries.
 #[repr(C)]
@@ -25,29 +28,12 @@ pub struct RangeAnswer {
 }
 
 // Questions 1, 2 and 10.
-fn part_answer(
-    p: PathTpc,
-    k: usize,
-    offsets: &[f64],
-    numbers: &[u32],
-    grades: &[f64],
-    curves: &[f64],
-    speeds: &[f64],
-    powers: &[f64],
-    districts: &[u32],
-) -> Answer
-    ensures { result ≡ spec.part_answer k p (columns offsets.now numbers.now grades.now curves.now speeds.now powers.now districts.now) }
+fn part_answer(p: PathTpc, k: usize, cols: &PathColumns) -> Result<(), Refusal>
+    ensures { answer result ≡ spec.part_answer k p (lent cols.now) }
 {
-    let first = path_answer(
-        p, true, offsets, numbers, grades, curves, speeds, powers, districts,
-    );
-    if first.number != 0 {
-        return first;
-    }
-    if p.link_count <= k {
-        return asked(10, false);
-    }
-    asked(10, k + 1 < p.link_count)
+    path_answer(p, true, cols)?;
+    Question::InRange.ask(k < p.link_count)?;
+    Question::InRange.ask(k + 1 < p.link_count)
 }
 
 // Where the records of link k, grades or curves, lie in their column.
@@ -99,9 +85,16 @@ pub fn link_grades<'a>(
         (record { answer = record { number = number.exit.now; place = 0 }; part = result.now })
         (spec.link_grades_of k p (columns offsets.now numbers.now grades.now curves.now speeds.now powers.now districts.now)) }
 {
-    let answer = part_answer(
-        p, k, offsets, numbers, grades, curves, speeds, powers, districts,
-    );
+    let cols = PathColumns {
+        offsets,
+        numbers,
+        grades,
+        curves,
+        speeds,
+        powers,
+        districts,
+    };
+    let answer = Answer::from(part_answer(p, k, &cols));
     *number = answer.number;
     if answer.number != 0 {
         return &grades[..0];
@@ -126,9 +119,16 @@ pub fn link_curves<'a>(
         (record { answer = record { number = number.exit.now; place = 0 }; part = result.now })
         (spec.link_curves_of k p (columns offsets.now numbers.now grades.now curves.now speeds.now powers.now districts.now)) }
 {
-    let answer = part_answer(
-        p, k, offsets, numbers, grades, curves, speeds, powers, districts,
-    );
+    let cols = PathColumns {
+        offsets,
+        numbers,
+        grades,
+        curves,
+        speeds,
+        powers,
+        districts,
+    };
+    let answer = Answer::from(part_answer(p, k, &cols));
     *number = answer.number;
     if answer.number != 0 {
         return &curves[..0];
@@ -151,9 +151,16 @@ pub fn link_range(
 ) -> RangeAnswer
     ensures { result ≡ spec.link_range_of wants_curves k p (columns offsets.now numbers.now grades.now curves.now speeds.now powers.now districts.now) }
 {
-    let answer = part_answer(
-        p, k, offsets, numbers, grades, curves, speeds, powers, districts,
-    );
+    let cols = PathColumns {
+        offsets,
+        numbers,
+        grades,
+        curves,
+        speeds,
+        powers,
+        districts,
+    };
+    let answer = Answer::from(part_answer(p, k, &cols));
     if answer.number != 0 {
         return RangeAnswer {
             answer,

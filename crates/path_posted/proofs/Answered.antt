@@ -18,7 +18,7 @@ use Rattle.speed.specs.Column.{points}
 use Rattle.speed.specs.Posted.{posted, Sorted}
 use Rattle.speed.proofs.PointColumn.{length-points}
 use Rattle.path.specs.declared.path_tpc.PathTpc.{PathTpc}
-use Rattle.path.specs.declared.path_tpc.Answer.{Answer}
+use Rattle.answer.specs.declared.Answer.{Answer}
 use Rattle.path.specs.declared.link_point.LinkPoint.{LinkPoint}
 use Rattle.path.specs.Records.{Columns, offset_of, link_point_at, link_points, no_link_point, path_of}
 use Rattle.path.specs.Answers.{is_done, ask}

@@ -16,11 +16,12 @@ use Rattle.column.proofs.Bridge.{four-lawful, held-length, held-records, held-ag
 use Rattle.link.specs.Lists.{first_no}
 use Rattle.link.specs.Questions.{numbers}
 use Rattle.path.specs.declared.path_tpc.PathTpc.{PathTpc}
-use Rattle.path.specs.declared.path_tpc.Answer.{Answer}
+use Rattle.answer.specs.declared.Answer.{Answer}
 use Rattle.path.specs.declared.path_tpc.PathAnswer.{PathAnswer}
 use Rattle.path.specs.declared.link_point.LinkPoint.{LinkPoint}
 use Rattle.path.specs.Records.{Columns, columns, offset_of, four_of, number_of, link_points, beginnings, path_of, columns_of, record_of}
-use Rattle.path.specs.Answers.{done, ask_each, left}
+use Rattle.answer.specs.Answers.{done}
+use Rattle.path.specs.Answers.{ask_each, left}
 use Rattle.path.specs.Sound.{sound, one_of_each, within_bounds, path_answer}
 use Rattle.path.proofs.ReadBack.{counted, link-fours}
 use Rattle.path.proofs.InTurn.{turn-no, turn-yes, turn-done, turn-none, last-each, judged-done, outcome-refused, outcome-done}

@@ -2,7 +2,7 @@
 use Rattle.std.specs.Prelude.{ℕ, Bool, true, not, ◌&&◌, List, [], ◌∷◌, map, eqb, ltb, length, get_or}
 use Rattle.link.specs.Lists.{first_no}
 use Rattle.path.specs.declared.path_tpc.PathTpc.{PathTpc}
-use Rattle.path.specs.declared.path_tpc.Answer.{Answer}
+use Rattle.answer.specs.declared.Answer.{Answer}
 use Rattle.path.specs.declared.link_point.LinkPoint.{LinkPoint}
 use Rattle.path.specs.Records.{Columns, Path, link_point, offset_of, grade_count_of, curve_count_of, power_count_of, number_of, beginnings, path_of}
 use Rattle.path.specs.Answers.{ask_each, in_turn, Outcome, outcome}

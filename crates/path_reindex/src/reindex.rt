@@ -3,16 +3,18 @@ ghost use Rattle.std.specs.Prelude.{◌≡◌, true, map, ◌<◌, length};
 ghost use Rattle.column.specs.Records.{records, record_at, put_record, four};
 ghost use Rattle.link.specs.Lists.{first_no};
 ghost use Rattle.link.specs.Questions as questions;
-ghost use Rattle.path.specs.Records.{columns};
+ghost use Rattle.answer.specs.Answers.{answer};
+ghost use Rattle.path.specs.Records.{columns, lent};
 ghost use Rattle.path.specs.Answers.{Outcome, left};
 ghost use Rattle.path_reindex.specs.Reindex as spec;
 ghost use Rattle.path_reindex.specs.Fours as fours;
 
-use column::Four;
-use column::{get, put_record, record_at};
+use answer::{Answer, Question, Refusal};
+use column::{Four, get, put_record, record_at};
 use link::questions::number_at;
-use path::answer::{asked_each, path_answer};
-use path::path_tpc::{Answer, PathAnswer, PathTpc};
+use path::columns::PathColumns;
+use path::path_tpc::{PathAnswer, PathTpc};
+use path::questions::path_answer;
 use path::rest::zero_rest;
 
 // Question 4 of a link number: the list has a number for it, and not 0.
@@ -39,26 +41,11 @@ fn renumber_question(numbers: &[u32], count: usize, new: &[u32]) -> Option<usize
 }
 
 // Questions 1, 2 and 4.
-fn reindex_answer(
-    p: PathTpc,
-    new: &[u32],
-    offsets: &[f64],
-    numbers: &[u32],
-    grades: &[f64],
-    curves: &[f64],
-    speeds: &[f64],
-    powers: &[f64],
-    districts: &[u32],
-) -> Answer
-    ensures { result ≡ spec.reindex_answer new.now p (columns offsets.now numbers.now grades.now curves.now speeds.now powers.now districts.now) }
+fn reindex_answer(p: PathTpc, new: &[u32], cols: &PathColumns) -> Result<(), Refusal>
+    ensures { answer result ≡ spec.reindex_answer new.now p (lent cols.now) }
 {
-    let first = path_answer(
-        p, true, offsets, numbers, grades, curves, speeds, powers, districts,
-    );
-    if first.number != 0 {
-        return first;
-    }
-    asked_each(4, renumber_question(numbers, p.link_count - 1, new))
+    path_answer(p, true, cols)?;
+    Question::InTable.ask_each(renumber_question(cols.numbers, p.link_count - 1, new))
 }
 
 // Another link number for link point i.
@@ -101,17 +88,16 @@ pub fn reindex(
         (left result (columns offsets.new numbers.new grades.new curves.new speeds.new powers.new districts.new))
         (spec.reindex_of new.now p (columns offsets.old numbers.old grades.old curves.old speeds.old powers.old districts.old)) }
 {
-    let answer = reindex_answer(
-        p,
-        new,
-        &*offsets,
-        &*numbers,
-        &*grades,
-        &*curves,
-        &*speeds,
-        &*powers,
-        &*districts,
-    );
+    let cols = PathColumns {
+        offsets: &*offsets,
+        numbers: &*numbers,
+        grades: &*grades,
+        curves: &*curves,
+        speeds: &*speeds,
+        powers: &*powers,
+        districts: &*districts,
+    };
+    let answer = Answer::from(reindex_answer(p, new, &cols));
     if answer.number != 0 {
         return PathAnswer { answer, path: p };
     }

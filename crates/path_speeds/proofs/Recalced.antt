@@ -23,11 +23,12 @@ use Rattle.link.specs.Table.{LinkTable}
 use Rattle.link.specs.Questions.{numbers}
 use Rattle.link.proofs.Loops.{length-range}
 use Rattle.path.specs.declared.path_tpc.PathTpc.{PathTpc}
-use Rattle.path.specs.declared.path_tpc.Answer.{Answer}
+use Rattle.answer.specs.declared.Answer.{Answer}
 use Rattle.path.specs.declared.path_tpc.PathAnswer.{PathAnswer}
 use Rattle.path.specs.declared.link_point.LinkPoint.{LinkPoint}
 use Rattle.path.specs.Records.{Columns, columns, Path, is_within_all, number_of, point_at, link_point_at, beginnings, path_of, columns_of, record_of}
-use Rattle.path.specs.Answers.{done, ask, ask_each, in_turn, links_answer, left}
+use Rattle.answer.specs.Answers.{done}
+use Rattle.path.specs.Answers.{ask, ask_each, in_turn, links_answer, left}
 use Rattle.path.specs.Sound.{sound, one_of_each, within_bounds, path_answer, train_finite, total}
 use Rattle.path.proofs.ReadBack.{counted, read_again}
 use Rattle.path.proofs.InTurn.{turn-no, turn-yes, turn-done, turn-none, first_done, last_one, links-done, judged-done, outcome-refused, outcome-done, turn_last}

@@ -7,7 +7,7 @@ use Rattle.link.specs.Lists.{first_no}
 use Rattle.link.specs.Train.{length_of, top_speed}
 use Rattle.link.specs.Table.{LinkTable}
 use Rattle.path.specs.declared.path_tpc.PathTpc.{PathTpc}
-use Rattle.path.specs.declared.path_tpc.Answer.{Answer}
+use Rattle.answer.specs.declared.Answer.{Answer}
 use Rattle.path.specs.declared.link_point.LinkPoint.{LinkPoint}
 use Rattle.path.specs.Records.{Columns, Path, is_within_all, offset_of, number_of, link_point_at, beginnings, path_of}
 use Rattle.path.specs.Answers.{ask, ask_each, in_turn, links_answer, Outcome, outcome}

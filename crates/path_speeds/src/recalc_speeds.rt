@@ -13,10 +13,12 @@ ghost use Rattle.path_speeds.specs.Recalc as spec;
 use crate::add_speeds::{lay_links, points_count, points_finite};
 use column::{Two, put_record};
 use link::train_params::TrainParams;
-use path::answer::{asked, asked_each, path_answer};
+use path::questions::{asked, asked_each, path_answer};
 use path::finite::train_finite;
+use path::columns::PathColumns;
 use path::links::links_answer;
-use path::path_tpc::{Answer, PathAnswer, PathTpc};
+use answer::Answer;
+use path::path_tpc::{PathAnswer, PathTpc};
 use path::rest::zero_rest;
 use path::sound::within;
 use si::Length;
@@ -80,9 +82,7 @@ fn recalc_answer(
         (table_of links.now lengths.now sets.now elevs.now headings.now limits.now codes.now values.now link_powers.now link_districts.now) p
         (columns offsets.now numbers.now grades.now curves.now speeds.now powers.now districts.now) }
 {
-    let first = path_answer(
-        p,
-        train_finite(train),
+    let cols = PathColumns {
         offsets,
         numbers,
         grades,
@@ -90,13 +90,14 @@ fn recalc_answer(
         speeds,
         powers,
         districts,
-    );
+    };
+    let first = Answer::from(path_answer(p, train_finite(train), &cols));
     if first.number != 0 {
         return first;
     }
     let count = p.link_count - 1;
     let kind = train.train_type;
-    let present = links_answer(
+    let present = Answer::from(links_answer(
         numbers,
         true,
         count,
@@ -112,7 +113,7 @@ fn recalc_answer(
         link_powers,
         link_districts,
         kind,
-    );
+    ));
     if present.number != 0 {
         return present;
     }

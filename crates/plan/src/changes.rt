@@ -1,7 +1,8 @@
 // The calls that may change the path, as lines of a route.
 use crate::columns::{Curves, Districts, Grades, Numbers, Offsets, Powers, Speeds, cut};
+use answer::Answer;
 use link::train_params::TrainParams;
-use path::path_tpc::{Answer, PathAnswer, PathTpc};
+use path::path_tpc::{PathAnswer, PathTpc};
 use route::fill::fill_list;
 use route::kinds::{CLEAR, EXTEND, FINISH, NEW, RECALCULATE};
 use si::Length;

@@ -11,7 +11,7 @@ use messages::lines::begins;
 use messages::outcomes::outcome;
 use messages::refusals::change_refused;
 use messages::warnings::warning;
-use path::path_tpc::{Answer, PathTpc};
+use path::path_tpc::PathTpc;
 use path_posted::posted_speed::posted_speed;
 use route::fields::float_at;
 use route::fill::train_of;

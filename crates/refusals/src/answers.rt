@@ -1,5 +1,5 @@
 // Answers as they are printed.
-use path::path_tpc::Answer;
+use answer::Answer;
 use resistance::listed::{CoeffAnswer, NetAnswer};
 use show::{count, say};
 

@@ -1,7 +1,8 @@
 // What is printed: an answer, its values, and the lists of a path.
 use crate::columns::{Curves, Districts, Grades, Numbers, Offsets, Powers, Speeds};
+use answer::Answer;
 use path::link_point::link_point_at;
-use path::path_tpc::{Answer, PathTpc};
+use path::path_tpc::PathTpc;
 use show::{STDOUT_FILENO, say};
 
 // A count, a number or an index.

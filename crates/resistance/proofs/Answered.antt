@@ -5,8 +5,9 @@ use mathlib.Core.Path.{◌≡◌, refl, sym, ap, ap₂, ◌∙◌}
 use mathlib.Core.Bool.{Bool, true, false, cond}
 use mathlib.Core.List.{List, [], ◌∷◌}
 use borrow.Author.Tests.{eq-eqb, ne_eqb}
-use Rattle.path.specs.declared.path_tpc.Answer.{Answer}
-use Rattle.path.specs.Answers.{done, is_done, ask, in_turn}
+use Rattle.answer.specs.declared.Answer.{Answer}
+use Rattle.answer.specs.Answers.{done}
+use Rattle.path.specs.Answers.{is_done, ask, in_turn}
 use Rattle.path.proofs.InTurn.{turn-no, turn-yes, first-no, first-yes, last_one}
 
 -- give a b: what a call gives with the answer a, by whether that is done; r is the code's answer

@@ -17,8 +17,9 @@ use Rattle.lookup.proofs.Coeffs.{value-way}
 use Rattle.lookup.proofs.SearchSteps.{sound-known}
 use Rattle.lookup.proofs.Place.{found_below}
 use Rattle.link.proofs.Known.{and_both}
-use Rattle.path.specs.declared.path_tpc.Answer.{Answer}
-use Rattle.path.specs.Answers.{done, ask, in_turn}
+use Rattle.answer.specs.declared.Answer.{Answer}
+use Rattle.answer.specs.Answers.{done}
+use Rattle.path.specs.Answers.{ask, in_turn}
 use Rattle.path.proofs.InTurn.{turn-no, first-no, first-yes, first_done, last_one, turn-none}
 use Rattle.train.specs.declared.train_state.TrainState.{TrainState}
 use Rattle.train.specs.Position.{state_finite}

@@ -12,7 +12,7 @@ use Rattle.ieee.specs.Number.{◌⊕◌}
 use Rattle.lookup.specs.declared.lin_search_hint.Dir.{Dir}
 use Rattle.lookup.specs.Coeff.{coeffs}
 use Rattle.link.proofs.Known.{and_both}
-use Rattle.path.specs.declared.path_tpc.Answer.{Answer}
+use Rattle.answer.specs.declared.Answer.{Answer}
 use Rattle.path.specs.Answers.{is_done, ask}
 use Rattle.train.specs.declared.train_state.TrainState.{TrainState}
 use Rattle.train.specs.Position.{front_of, back_of, state_finite}

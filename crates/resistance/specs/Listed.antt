@@ -5,7 +5,7 @@ use Rattle.lookup.specs.declared.lin_search_hint.Dir.{Dir}
 use Rattle.lookup.specs.declared.path_res_coeff.PathResCoeff.{PathResCoeff}
 use Rattle.lookup.specs.Coeff.{coeffs, coeff_at, stands_at, coefficient_of, res_val, coeffs_finite}
 use Rattle.lookup.specs.CalcIdx.{Indexed, find_in, list_sound}
-use Rattle.path.specs.declared.path_tpc.Answer.{Answer}
+use Rattle.answer.specs.declared.Answer.{Answer}
 use Rattle.path.specs.Answers.{is_done, ask, in_turn}
 use Rattle.train.specs.declared.train_state.TrainState.{TrainState}
 use Rattle.train.specs.Position.{state_finite}

@@ -6,8 +6,9 @@ use Rattle.lookup.specs.declared.lin_search_hint.Dir.{Dir}
 use Rattle.lookup.specs.declared.lin_search_hint.Dir.TheVariants.{Unk, Fwd, Bwd}
 use Rattle.lookup.specs.declared.path_res_coeff.PathResCoeff.{PathResCoeff}
 use Rattle.lookup.specs.Coeff.{coeffs, coeff_at, coefficient_of, res_val}
-use Rattle.path.specs.declared.path_tpc.Answer.{Answer}
-use Rattle.path.specs.Answers.{done, is_done, ask, in_turn}
+use Rattle.answer.specs.declared.Answer.{Answer}
+use Rattle.answer.specs.Answers.{done}
+use Rattle.path.specs.Answers.{is_done, ask, in_turn}
 use Rattle.train.specs.declared.train_state.TrainState.{TrainState}
 use Rattle.train.specs.Position.{front_of, back_of, length_of, weight_of, state_finite}
 use Rattle.resistance.specs.declared.listed.Searched.{Searched}

@@ -3,7 +3,8 @@ use Rattle.std.specs.Prelude.{ℕ, zero, suc, Bool, ◌&&◌, cond, List, [], �
 use Rattle.std.specs.Float.Ieee.Scale.{finite}
 use Rattle.ieee.specs.Number.{◌⊕◌}
 use Rattle.lookup.specs.declared.lin_search_hint.Dir.{Dir}
-use Rattle.path.specs.Answers.{done, is_done, ask, in_turn}
+use Rattle.answer.specs.Answers.{done}
+use Rattle.path.specs.Answers.{is_done, ask, in_turn}
 use Rattle.train.specs.declared.train_state.TrainState.{TrainState}
 use Rattle.train.specs.Position.{front_of, back_of, state_finite}
 use Rattle.resistance.specs.declared.strap.Strap.{Strap}

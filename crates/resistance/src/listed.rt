@@ -4,13 +4,12 @@ ghost use Rattle.lookup.specs.Coeff.{coeffs};
 ghost use Rattle.lookup.specs.CalcIdx.{indexed};
 ghost use Rattle.resistance.specs.Listed as spec;
 
-use answer::Refusal;
+use answer::{Answer, Refusal};
 use lookup::calc_idx::list_sound;
 use lookup::lin_search_hint::Dir;
 use lookup::path_res_coeff::{coeff_in, coeffs_finite};
 use lookup::search::find;
-use path::answer::{asked, done};
-use path::path_tpc::Answer;
+use path::questions::{asked, done};
 use si::{Length, Ratio};
 use train::train_state::{TrainState, state_finite};
 

@@ -5,10 +5,10 @@ ghost use Rattle.resistance.specs.Listed.{res_coeff_of, res_net_of};
 ghost use Rattle.resistance.specs.Point as spec;
 
 use crate::listed::{CoeffAnswer, NetAnswer, Searched, list_answer, res_coeff, res_net, search};
+use answer::Answer;
 use lookup::lin_search_hint::Dir;
 use lookup::path_res_coeff::coeff_in;
-use path::answer::{asked, done};
-use path::path_tpc::Answer;
+use path::questions::{asked, done};
 use si::{Force, Length};
 use train::train_state::{TrainState, state_finite};
 

@@ -7,9 +7,9 @@ ghost use Rattle.resistance.specs.Walk as spec;
 
 use crate::listed::list_answer;
 use crate::strap::{Strap, StrapRes, calc_res_strap, moved_by};
+use answer::Answer;
 use lookup::lin_search_hint::Dir;
-use path::answer::asked;
-use path::path_tpc::Answer;
+use path::questions::asked;
 use si::{Force, Length};
 use train::train_state::{TrainState, state_finite};
 

@@ -1,9 +1,10 @@
 // The calls that read the path, as lines of a route.
+use answer::Answer;
 use link::train_params::TrainParams;
 use lookup::lin_search_hint::Dir;
 use messages::outcomes::outcome;
 use messages::refusals::reading_refused;
-use path::path_tpc::{Answer, PathTpc};
+use path::path_tpc::PathTpc;
 use path_link_records::link_records::link_range;
 use path_posted::posted_speed::posted_speed;
 use resistance::strap::{Strap, StrapAnswer};

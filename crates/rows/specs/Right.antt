@@ -8,6 +8,7 @@ use Rattle.speed.specs.Points.{Point}
 use Rattle.speed.specs.Column.{pair}
 use Rattle.speed.specs.Insert.{insert_speed}
 use Rattle.lookup.specs.CalcIdx.{Indexed, calc_idx}
+use Rattle.answer.specs.Answers.{done}
 use Rattle.path.specs.declared.path_tpc.PathTpc.{PathTpc}
 use Rattle.path.specs.declared.path_tpc.PathAnswer.{PathAnswer}
 use Rattle.path.specs.declared.link_point.LinkPoint.{LinkPoint}
@@ -56,7 +57,7 @@ columns_of l = columns (map m l.offsets) l.numbers (map m l.grades) (map m l.gra
 -- "done" with the dropped counts d, and the path l
 unfoldable pub leaves : LinkPoint → Lent → Cleared
 unfolding record_of columns_of
-leaves d l = record { outcome = answers.left (record { answer = answers.done; path = record_of l }) (columns_of l); dropped = d }
+leaves d l = record { outcome = answers.left (record { answer = done; path = record_of l }) (columns_of l); dropped = d }
 
 -- all that `clear` leaves, as numbers
 unfoldable pub answer_told : PathAnswer → List ℕ

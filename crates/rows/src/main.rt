@@ -1,11 +1,11 @@
 // The rows (R136 to R153), run through the code and printed as it answers them.
 #![tactic(auto)]
 
-use answer::Refusal;
+use answer::{Answer, Refusal};
 use lookup::calc_idx::calc_idx;
 use lookup::lin_search_hint::Dir;
 use path::link_point::LinkPoint;
-use path::path_tpc::{Answer, PathTpc};
+use path::path_tpc::PathTpc;
 use path_clear::clear::clear;
 use show::Whole;
 use si::{Length, Velocity};

@@ -8,7 +8,7 @@ use lib.Ieee.Scale.{finite}
 use borrow.Author.Tests.{ne_eqb}
 use Rattle.ieee.specs.Number.{◌⊖◌}
 use Rattle.path.specs.declared.path_tpc.PathTpc.{PathTpc}
-use Rattle.path.specs.declared.path_tpc.Answer.{Answer}
+use Rattle.answer.specs.declared.Answer.{Answer}
 use Rattle.path.specs.declared.link_point.LinkPoint.{LinkPoint}
 use Rattle.path.specs.Records.{Columns, offset_of, number_of, link_points, path_of}
 use Rattle.path.specs.Answers.{is_done, ask}

@@ -5,10 +5,11 @@ use Rattle.std.specs.Float.Ieee.Scale.{finite}
 use Rattle.ieee.specs.Number.{◌⊖◌}
 use Rattle.lookup.specs.Search.{last_not_after}
 use Rattle.path.specs.declared.path_tpc.PathTpc.{PathTpc}
-use Rattle.path.specs.declared.path_tpc.Answer.{Answer}
+use Rattle.answer.specs.declared.Answer.{Answer}
 use Rattle.path.specs.declared.link_point.LinkPoint.{LinkPoint}
 use Rattle.path.specs.Records.{Columns, offset_of, number_of, link_point_at, path_of}
-use Rattle.path.specs.Answers.{done, is_done, ask, in_turn}
+use Rattle.answer.specs.Answers.{done}
+use Rattle.path.specs.Answers.{is_done, ask, in_turn}
 use Rattle.path.specs.Sound.{path_answer}
 use Rattle.train.specs.declared.train_state.TrainState.{TrainState}
 use Rattle.train.specs.declared.locate.Located.{Located}

@@ -6,9 +6,11 @@ ghost use Rattle.path.specs.Answers.{ask};
 ghost use Rattle.train.specs.Locate as spec;
 
 use crate::train_state::{TrainState, state_finite};
-use path::answer::{asked, done, path_answer};
+use answer::Answer;
+use path::columns::PathColumns;
 use path::link_point::{LinkPoint, link_point_at};
-use path::path_tpc::{Answer, PathTpc};
+use path::path_tpc::PathTpc;
+use path::questions::{asked, done, path_answer};
 use si::Length;
 
 // An answer, and the three link fields of a position that go with it.
@@ -92,9 +94,16 @@ pub fn locate(
     ensures { result ≡ spec.locate_of state path (columns offsets.now numbers.now grades.now curves.now speeds.now powers.now districts.now) }
 {
     let finite = state_finite(state);
-    let first = path_answer(
-        path, finite, offsets, numbers, grades, curves, speeds, powers, districts,
-    );
+    let cols = PathColumns {
+        offsets,
+        numbers,
+        grades,
+        curves,
+        speeds,
+        powers,
+        districts,
+    };
+    let first = Answer::from(path_answer(path, finite, &cols));
     if first.number != 0 {
         return located_as_before(state, first);
     }

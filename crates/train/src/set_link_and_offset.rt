@@ -5,7 +5,8 @@ ghost use Rattle.train.specs.Locate.{locate_of, placed};
 
 use crate::locate::locate;
 use crate::train_state::TrainState;
-use path::path_tpc::{Answer, PathTpc};
+use answer::Answer;
+use path::path_tpc::PathTpc;
 
 // A position, and the answer of the call that handed it back.
 #[repr(C)]

@@ -2,7 +2,7 @@
 use mathlib.Core.Path.{ap, ◌∙◌}
 use Rattle.lookup.specs.declared.lin_search_hint.Dir.{Dir}
 use Rattle.lookup.specs.CalcIdx.{calc_idx}
-use Rattle.path.specs.declared.path_tpc.Answer.{Answer}
+use Rattle.answer.specs.declared.Answer.{Answer}
 use Rattle.resistance.specs.Listed.{searched_of, not_searched}
 use Rattle.capi.proofs.Directed.{direction-known, direction-unknown}
 use Rattle.capi.proofs.lists.mochaspit_calc_idx.Goals as goal

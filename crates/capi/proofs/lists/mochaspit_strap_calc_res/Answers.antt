@@ -3,7 +3,7 @@ use mathlib.Core.Path.{ap}
 use mathlib.Core.Bool.{false}
 use lib.Ieee.{of_bits}
 use Rattle.lookup.specs.declared.lin_search_hint.Dir.{Dir}
-use Rattle.path.specs.declared.path_tpc.Answer.{Answer}
+use Rattle.answer.specs.declared.Answer.{Answer}
 use Rattle.path.specs.Answers.{ask}
 use Rattle.resistance.specs.Strap.{calc_res_of, refused_res}
 use Rattle.capi.proofs.Directed.{direction-known, direction-unknown}

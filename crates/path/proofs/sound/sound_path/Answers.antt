@@ -1,5 +1,5 @@
 -- `sound_path`: the counts lie within the columns, and then the clauses, the last of them first.
-use Rattle.path.specs.Records.{columns}
+use Rattle.path.specs.Records.{lent}
 use Rattle.path.proofs.Clauses.{some-link, some-records, bounds, room, joined}
 use Rattle.path.proofs.sound.sound_path.Goals as goal
 
@@ -12,19 +12,19 @@ closes-requires-2 c = tt
 pub end_counts_zero-requires : goal.end_counts_zero-requires
 end_counts_zero-requires c =
     let a = c.args in
-    let l = columns a.offsets.now a.numbers.now a.grades.now a.curves.now a.speeds.now a.powers.now a.districts.now in
+    let l = lent a.cols.now in
     some-link a.p l c.requires.p_value
 
 pub offsets_rise-requires : goal.offsets_rise-requires
 offsets_rise-requires c =
     let a = c.args in
-    let l = columns a.offsets.now a.numbers.now a.grades.now a.curves.now a.speeds.now a.powers.now a.districts.now in record { n_nonzero = some-link a.p l c.requires.p_value; n_in_bounds = (room a.p l c.requires.districts_value).offsets }
+    let l = lent a.cols.now in record { n_nonzero = some-link a.p l c.requires.p_value; n_in_bounds = (room a.p l c.requires.in_columns).offsets }
 
 pub numbers_real-requires : goal.numbers_real-requires
 numbers_real-requires c =
     let a = c.args in
-    let l = columns a.offsets.now a.numbers.now a.grades.now a.curves.now a.speeds.now a.powers.now a.districts.now in
-    let within = room a.p l c.requires.districts_value in record { n_nonzero = some-link a.p l c.requires.p_value; n_in_bounds = within.offsets; n_in_bounds_2 = within.numbers }
+    let l = lent a.cols.now in
+    let within = room a.p l c.requires.in_columns in record { n_nonzero = some-link a.p l c.requires.p_value; n_in_bounds = within.offsets; n_in_bounds_2 = within.numbers }
 
 pub link_point_at-requires : goal.link_point_at-requires
 link_point_at-requires c = tt
@@ -32,18 +32,18 @@ link_point_at-requires c = tt
 pub sorted_from-sorted-requires : goal.sorted_from-sorted-requires
 sorted_from-sorted-requires c =
     let a = c.args in
-    let l = columns a.offsets.now a.numbers.now a.grades.now a.curves.now a.speeds.now a.powers.now a.districts.now in record { n_nonzero = (some-records a.p l c.requires.p_value).2; n_in_bounds = (room a.p l c.requires.districts_value).speeds }
+    let l = lent a.cols.now in record { n_nonzero = (some-records a.p l c.requires.p_value).2; n_in_bounds = (room a.p l c.requires.in_columns).speeds }
 
 pub counts_lead-lead-requires : goal.counts_lead-lead-requires
 counts_lead-lead-requires c =
     let a = c.args in
-    let l = columns a.offsets.now a.numbers.now a.grades.now a.curves.now a.speeds.now a.powers.now a.districts.now in
-    let within = room a.p l c.requires.districts_value in record { link_count_bound = (bounds a.p l c.requires.districts_value).0; link_count_in_bounds = within.offsets; link_count_in_bounds_2 = within.numbers; grade_count_in_bounds = within.grades; curve_count_in_bounds = within.curves }
+    let l = lent a.cols.now in
+    let within = room a.p l c.requires.in_columns in record { link_count_bound = (bounds a.p l c.requires.in_columns).0; link_count_in_bounds = within.offsets; link_count_in_bounds_2 = within.numbers; grade_count_in_bounds = within.grades; curve_count_in_bounds = within.curves }
 
 pub returns : goal.returns
 returns c =
     let a = c.args in
-    let l = columns a.offsets.now a.numbers.now a.grades.now a.curves.now a.speeds.now a.powers.now a.districts.now in
+    let l = lent a.cols.now in
     joined
     a.p
     l

@@ -5,27 +5,33 @@ use lib.Dec.{leb}
 use lib.ListN.{drop}
 use Rattle.path.specs.Records.{link_points}
 use Rattle.path.specs.Answers.{ask}
+use Rattle.path.proofs.Told.{handed-on, told-err, once, said-no, said-yes}
 use Rattle.path_clear.proofs.Gone.{trim-1, trim-10, trim-12, length_rest, rest-range}
 use Rattle.path_clear.proofs.clear_each.trim_answer.Goals as goal
 
-pub returns-then-not-is_finite : goal.returns-then-not-is_finite
-returns-then-not-is_finite c =
+pub returns-in_err-ask : goal.returns-in_err-ask
+returns-in_err-ask c =
     let a = c.args in
     let rest = drop a.from (link_points a.n a.offsets.now a.numbers.now) in
-    c.asked.ensures ∙ sym (trim-1 a.x rest (sym c.is_finite.ensures ∙ c.if-not-is_finite.true))
+    let no = said-no _ _ c.ask.ensures c.in_err-ask.was in
+    handed-on _ _ c.from_residual.ensures.1 ∙ told-err (once _ _ c.ask.ensures) c.in_err-ask.was ∙ ap (ask 1) no ∙ sym (trim-1 a.x rest (sym c.is_finite.ensures ∙ no))
 
-pub returns-then-not-first-x : goal.returns-then-not-first-x
-returns-then-not-first-x c =
+pub returns-in_err-ask-2 : goal.returns-in_err-ask-2
+returns-in_err-ask-2 c =
     let a = c.args in
     let rest = drop a.from (link_points a.n a.offsets.now a.numbers.now) in
     let within = rest-range a.x a.offsets.now a.numbers.now a.n a.from c.requires c.get-first.ensures c.get-last.ensures in
-    c.asked-then-not-first-x.ensures ∙ sym (trim-10 a.x rest (sym c.is_finite.ensures ∙ c.if-not-is_finite.false) (sym within ∙ c.if-not-first-x.true))
+    let no = said-no _ _ c.ask-2.ensures c.in_err-ask-2.was in
+    handed-on _ _ c.from_residual-in_err-ask-2.ensures.1
+    ∙ told-err (once _ _ c.ask-2.ensures) c.in_err-ask-2.was
+    ∙ ap (ask 10) no
+    ∙ sym (trim-10 a.x rest (sym c.is_finite.ensures ∙ said-yes _ _ c.ask.ensures c.in_ok-ask.was) (sym within ∙ no))
 
 pub returns : goal.returns
 returns c =
     let a = c.args in
     let rest = drop a.from (link_points a.n a.offsets.now a.numbers.now) in
     let within = rest-range a.x a.offsets.now a.numbers.now a.n a.from c.requires c.get-first.ensures c.get-last.ensures in
-    c.asked-2.ensures
+    once _ _ c.ask-3.ensures
     ∙ ap (λ (k : ℕ). ask 12 (leb 2 k)) (sym (length_rest a.x a.offsets.now a.numbers.now a.n a.from c.requires))
-    ∙ sym (trim-12 a.x rest (sym c.is_finite.ensures ∙ c.if-not-is_finite.false) (sym within ∙ c.if-not-first-x.false))
+    ∙ sym (trim-12 a.x rest (sym c.is_finite.ensures ∙ said-yes _ _ c.ask.ensures c.in_ok-ask.was) (sym within ∙ said-yes _ _ c.ask-2.ensures c.in_ok-ask-2.was))

@@ -17,19 +17,19 @@ unfolding of_bits
 returns-then-answer-ne0 c =
     let a = c.args in
     let l = columns a.offsets.now a.numbers.now a.grades.now a.curves.now a.speeds.now a.powers.now a.districts.now in
-    no-speed a.x.0 a.p l c.posted_answer-answer.ensures c.if-answer-ne0.true
+    no-speed a.x.0 a.p l (c.from-answer.ensures ∙ c.posted_answer.ensures) c.if-answer-ne0.true
 
 pub new-requires : goal.new-requires
 new-requires c =
     let a = c.args in
     let l = columns a.offsets.now a.numbers.now a.grades.now a.curves.now a.speeds.now a.powers.now a.districts.now in
-    (searchable a.x.0 a.p l c.posted_answer-answer.ensures c.if-answer-ne0.false).1.0
+    (searchable a.x.0 a.p l (c.from-answer.ensures ∙ c.posted_answer.ensures) c.if-answer-ne0.false).1.0
 
 pub posted_at-speed-requires : goal.posted_at-speed-requires
 posted_at-speed-requires c =
     let a = c.args in
     let l = columns a.offsets.now a.numbers.now a.grades.now a.curves.now a.speeds.now a.powers.now a.districts.now in
-    let asked = searchable a.x.0 a.p l c.posted_answer-answer.ensures c.if-answer-ne0.false in
+    let asked = searchable a.x.0 a.p l (c.from-answer.ensures ∙ c.posted_answer.ensures) c.if-answer-ne0.false in
     let are = sym c.new.ensures.are in
     record {
       some = omega (arith, asked.0, c.new.ensures.count);
@@ -41,4 +41,4 @@ pub returns : goal.returns
 returns c =
     let a = c.args in
     let l = columns a.offsets.now a.numbers.now a.grades.now a.curves.now a.speeds.now a.powers.now a.districts.now in
-    speed-handed a.x.0 a.p l c.posted_answer-answer.ensures c.if-answer-ne0.false (c.posted_at-speed.ensures ∙ ap (λ (ps : List Point). posted a.x.0 ps +0) c.new.ensures.are)
+    speed-handed a.x.0 a.p l (c.from-answer.ensures ∙ c.posted_answer.ensures) c.if-answer-ne0.false (c.posted_at-speed.ensures ∙ ap (λ (ps : List Point). posted a.x.0 ps +0) c.new.ensures.are)

@@ -1,23 +1,24 @@
 -- `reindex_answer`: the questions in their order.
-use mathlib.Core.Path.{sym, ◌∙◌}
-use Rattle.path.specs.Records.{columns}
+use mathlib.Core.Path.{sym, ◌∙◌, refl}
+use Rattle.path.specs.Records.{lent}
 use Rattle.path_reindex.proofs.Renumbered.{reindex-first, reindex-4, some-points}
+use Rattle.path.proofs.Told.{handed-on, told-err, told-ok, numbered, each}
 use Rattle.path_reindex.proofs.reindex.reindex_answer.Goals as goal
 
-pub returns-then-first-ne0 : goal.returns-then-first-ne0
-returns-then-first-ne0 c =
+pub returns-in_err-path_answer : goal.returns-in_err-path_answer
+returns-in_err-path_answer c =
     let a = c.args in
-    let l = columns a.offsets.now a.numbers.now a.grades.now a.curves.now a.speeds.now a.powers.now a.districts.now in
-    sym (reindex-first a.new.now a.p l c.path_answer-first.ensures c.if-first-ne0.true)
+    let l = lent a.cols.now in
+    handed-on _ _ c.from_residual.ensures.1 ∙ sym (reindex-first a.new.now a.p l (told-err c.path_answer.ensures c.in_err-path_answer.was) (numbered _))
 
 pub overflow_sub-p : goal.overflow_sub-p
 overflow_sub-p c =
     let a = c.args in
-    let l = columns a.offsets.now a.numbers.now a.grades.now a.curves.now a.speeds.now a.powers.now a.districts.now in
-    some-points a.new.now a.p l c.path_answer-first.ensures c.if-first-ne0.false
+    let l = lent a.cols.now in
+    some-points a.new.now a.p l (told-ok c.path_answer.ensures c.in_ok-path_answer.was) refl
 
 pub returns : goal.returns
 returns c =
     let a = c.args in
-    let l = columns a.offsets.now a.numbers.now a.grades.now a.curves.now a.speeds.now a.powers.now a.districts.now in
-    c.asked_each.ensures ∙ sym (reindex-4 a.new.now a.p l c.path_answer-first.ensures c.if-first-ne0.false c.renumber_question.ensures)
+    let l = lent a.cols.now in
+    each _ _ c.ask_each.ensures ∙ sym (reindex-4 a.new.now a.p l (told-ok c.path_answer.ensures c.in_ok-path_answer.was) refl c.renumber_question.ensures)

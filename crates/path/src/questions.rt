@@ -1,12 +1,15 @@
 // Answers, and questions 1 and 2 of a path in turn.
 ghost use Rattle.std.specs.Prelude.{◌≡◌};
-ghost use Rattle.path.specs.Records.{columns};
-ghost use Rattle.path.specs.Answers.{done, ask, ask_each};
+ghost use Rattle.path.specs.Records.{lent};
+ghost use Rattle.answer.specs.Answers.{done, answer};
+ghost use Rattle.path.specs.Answers.{ask, ask_each};
 ghost use Rattle.path.specs.Sound.{path_answer};
 
+use crate::columns::PathColumns;
 use crate::finite::path_finite;
-use crate::path_tpc::{Answer, PathTpc};
+use crate::path_tpc::PathTpc;
 use crate::sound::path_sound;
+use answer::{Answer, Question, Refusal};
 
 // Done.
 pub fn done() -> Answer
@@ -45,29 +48,10 @@ pub fn asked_each(number: u32, judged: Option<usize>) -> Answer
 }
 
 // Questions 1 and 2 of a path; also is question 1 of the call's other numbers.
-pub fn path_answer(
-    p: PathTpc,
-    also: bool,
-    offsets: &[f64],
-    numbers: &[u32],
-    grades: &[f64],
-    curves: &[f64],
-    speeds: &[f64],
-    powers: &[f64],
-    districts: &[u32],
-) -> Answer
-    ensures { result ≡ path_answer also p (columns offsets.now numbers.now grades.now curves.now speeds.now powers.now districts.now) }
+pub fn path_answer(p: PathTpc, also: bool, cols: &PathColumns) -> Result<(), Refusal>
+    ensures { answer result ≡ path_answer also p (lent cols.now) }
 {
-    if !also {
-        return asked(1, false);
-    }
-    if !path_finite(
-        p, offsets, numbers, grades, curves, speeds, powers, districts,
-    ) {
-        return asked(1, false);
-    }
-    let sound = path_sound(
-        p, offsets, numbers, grades, curves, speeds, powers, districts,
-    );
-    asked(2, sound)
+    Question::Finite.ask(also)?;
+    Question::Finite.ask(path_finite(p, cols))?;
+    Question::Sound.ask(path_sound(p, cols))
 }

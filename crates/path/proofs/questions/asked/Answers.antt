@@ -1,5 +1,5 @@
 -- `asked`: yes, and no.
-use Rattle.path.proofs.answer.asked.Goals as goal
+use Rattle.path.proofs.questions.asked.Goals as goal
 
 pub returns-then-yes : goal.returns-then-yes
 returns-then-yes c = rw c.if-yes.true
