@@ -3,6 +3,7 @@ ghost use Rattle.std.specs.Prelude.{◌≡◌, true, ◌<◌};
 ghost use Rattle.link.specs.Lists.{every};
 ghost use Rattle.link.specs.Table.{table_of};
 ghost use Rattle.path.specs.Records.{columns, link_points, path_of};
+ghost use Rattle.answer.specs.Answers.{answer};
 ghost use Rattle.path.specs.Answers.{Outcome, left, changed};
 ghost use Rattle.path.specs.Sound.{sound};
 ghost use Rattle.path_speeds.specs.Limits.{sets_of, few_at};
@@ -10,7 +11,7 @@ ghost use Rattle.path_join.specs.Joined.{started, join_all};
 ghost use Rattle.path_extend.specs.Extend as spec;
 ghost use Rattle.path_extend.specs.Ready as ready;
 
-use answer::Answer;
+use answer::{Answer, Question, Refusal};
 use link::questions::question5;
 use link::train_params::TrainParams;
 use lookup::path_res_coeff::coeff_at;
@@ -19,7 +20,7 @@ use path::finite::train_finite;
 use path::link_point::link_point_at;
 use path::links::links_answer;
 use path::path_tpc::{PathAnswer, PathTpc};
-use path::questions::{asked, asked_each, path_answer};
+use path::questions::path_answer;
 use path::rest::zero_rest;
 use path_join::fit::records_fit;
 use path_join::join::{join_points, join_powers, join_records, start_net, starting_net};
@@ -95,13 +96,13 @@ fn sums_answer(
     values: &[f64],
     link_powers: &[f64],
     link_districts: &[u32],
-) -> Answer
+) -> Result<(), Refusal>
     requires districts_value { sound p (columns offsets.now numbers.now grades.now curves.now speeds.now powers.now districts.now) ≡ true }
     requires list_value { every
         (few_at train (sets_of
         (table_of links.now lengths.now sets.now elevs.now headings.now limits.now codes.now values.now link_powers.now link_districts.now)))
         list.now ≡ true }
-    ensures { result ≡ spec.sums_answer train own.0
+    ensures { answer result ≡ spec.sums_answer train own.0
         (table_of links.now lengths.now sets.now elevs.now headings.now limits.now codes.now values.now link_powers.now link_districts.now) list.now p
         (columns offsets.now numbers.now grades.now curves.now speeds.now powers.now districts.now) }
 {
@@ -122,10 +123,7 @@ fn sums_answer(
         own,
         train,
     );
-    let first = asked_each(8, sums);
-    if first.number != 0 {
-        return first;
-    }
+    Question::Results.ask_each(sums)?;
     let fit = records_fit(
         p,
         train,
@@ -148,7 +146,7 @@ fn sums_answer(
         link_powers,
         link_districts,
     );
-    asked(9, fit)
+    Question::Room.ask(fit)
 }
 
 // Questions 1 to 9.
@@ -173,8 +171,8 @@ fn extend_answer(
     values: &[f64],
     link_powers: &[f64],
     link_districts: &[u32],
-) -> Answer
-    ensures { result ≡ spec.extend_answer train
+) -> Result<(), Refusal>
+    ensures { answer result ≡ spec.extend_answer train
         (table_of links.now lengths.now sets.now elevs.now headings.now limits.now codes.now values.now link_powers.now link_districts.now) list.now p
         (columns offsets.now numbers.now grades.now curves.now speeds.now powers.now districts.now) }
 {
@@ -187,16 +185,10 @@ fn extend_answer(
         powers,
         districts,
     };
-    let first = Answer::from(path_answer(p, train_finite(train), &cols));
-    if first.number != 0 {
-        return first;
-    }
+    path_answer(p, train_finite(train), &cols)?;
     let closed = p.is_finished;
-    if closed {
-        return asked(3, false);
-    }
-    let kind = train.train_type;
-    let named = Answer::from(links_answer(
+    Question::Open.ask(!closed)?;
+    links_answer(
         list,
         false,
         list.len(),
@@ -211,11 +203,8 @@ fn extend_answer(
         values,
         link_powers,
         link_districts,
-        kind,
-    ));
-    if named.number != 0 {
-        return named;
-    }
+        train.train_type,
+    )?;
     let own = train.length;
     sums_answer(
         p,
@@ -379,7 +368,7 @@ pub fn extend(
         (table_of links.now lengths.now sets.now elevs.now headings.now limits.now codes.now values.now link_powers.now link_districts.now) list.now p
         (columns offsets.old numbers.old grades.old curves.old speeds.old powers.old districts.old)) }
 {
-    let answer = extend_answer(
+    let answer = Answer::from(extend_answer(
         p,
         train,
         list,
@@ -400,7 +389,7 @@ pub fn extend(
         values,
         link_powers,
         link_districts,
-    );
+    ));
     if answer.number != 0 {
         return PathAnswer { answer, path: p };
     }

@@ -5,20 +5,21 @@ ghost use Rattle.speed.specs.Column.{Leaves};
 ghost use Rattle.link.specs.Lists.{every, up_from};
 ghost use Rattle.link.specs.Table.{table_of};
 ghost use Rattle.path.specs.Records.{columns, point_at};
+ghost use Rattle.answer.specs.Answers.{answer};
 ghost use Rattle.path.specs.Answers.{Outcome, left};
 ghost use Rattle.path.specs.Sound.{total};
 ghost use Rattle.path_speeds.specs.Limits.{speed_sets, point_few, point_count};
 ghost use Rattle.path_speeds.specs.Recalc as spec;
 
 use crate::add_speeds::{lay_links, points_count, points_finite};
+use answer::{Answer, Question, Refusal};
 use column::{Two, put_record};
 use link::train_params::TrainParams;
-use path::questions::{asked, asked_each, path_answer};
-use path::finite::train_finite;
 use path::columns::PathColumns;
+use path::finite::train_finite;
 use path::links::links_answer;
-use answer::Answer;
 use path::path_tpc::{PathAnswer, PathTpc};
+use path::questions::path_answer;
 use path::rest::zero_rest;
 use path::sound::within;
 use si::Length;
@@ -35,25 +36,20 @@ fn limits_answer(
     limits: &[f64],
     own: Length,
     train: TrainParams,
-) -> Answer
+) -> Result<(), Refusal>
     requires count_bound { count ≤ 1025 }
     requires count_value { every (point_few train (speed_sets sets.now codes.now values.now limits.now))
         (up_from (point_at offsets.now numbers.now) 0 count) ≡ true }
-    ensures { result ≡ spec.limits_answer train own.0 (speed_sets sets.now codes.now values.now limits.now)
+    ensures { answer result ≡ spec.limits_answer train own.0 (speed_sets sets.now codes.now values.now limits.now)
         (up_from (point_at offsets.now numbers.now) 0 count) (list.length speeds.now) }
 {
     let sums = points_finite(
         offsets, numbers, count, sets, codes, values, limits, own, train,
     );
-    let first = asked_each(8, sums);
-    if first.number != 0 {
-        return first;
-    }
+    Question::Results.ask_each(sums)?;
     let laid = points_count(offsets, numbers, count, sets, codes, values, limits, train);
-    asked(
-        9,
-        within(1 + 2 * laid, 4096, speeds.len() / 2, speeds.len() / 2),
-    )
+    let half = speeds.len() / 2;
+    Question::Room.ask(within(1 + 2 * laid, 4096, half, half))
 }
 
 // Questions 1, 2, 4 and 6 to 9.
@@ -77,8 +73,8 @@ fn recalc_answer(
     values: &[f64],
     link_powers: &[f64],
     link_districts: &[u32],
-) -> Answer
-    ensures { result ≡ spec.recalc_answer train
+) -> Result<(), Refusal>
+    ensures { answer result ≡ spec.recalc_answer train
         (table_of links.now lengths.now sets.now elevs.now headings.now limits.now codes.now values.now link_powers.now link_districts.now) p
         (columns offsets.now numbers.now grades.now curves.now speeds.now powers.now districts.now) }
 {
@@ -91,13 +87,9 @@ fn recalc_answer(
         powers,
         districts,
     };
-    let first = Answer::from(path_answer(p, train_finite(train), &cols));
-    if first.number != 0 {
-        return first;
-    }
+    path_answer(p, train_finite(train), &cols)?;
     let count = p.link_count - 1;
-    let kind = train.train_type;
-    let present = Answer::from(links_answer(
+    links_answer(
         numbers,
         true,
         count,
@@ -112,11 +104,8 @@ fn recalc_answer(
         values,
         link_powers,
         link_districts,
-        kind,
-    ));
-    if present.number != 0 {
-        return present;
-    }
+        train.train_type,
+    )?;
     let own = train.length;
     limits_answer(
         offsets, numbers, speeds, count, sets, codes, values, limits, own, train,
@@ -193,7 +182,7 @@ pub fn recalc_speeds(
         (table_of links.now lengths.now sets.now elevs.now headings.now limits.now codes.now values.now link_powers.now link_districts.now) p
         (columns offsets.old numbers.old grades.old curves.old speeds.old powers.old districts.old)) }
 {
-    let answer = recalc_answer(
+    let answer = Answer::from(recalc_answer(
         p,
         train,
         &*offsets,
@@ -213,7 +202,7 @@ pub fn recalc_speeds(
         values,
         link_powers,
         link_districts,
-    );
+    ));
     if answer.number != 0 {
         return PathAnswer { answer, path: p };
     }

@@ -1,5 +1,5 @@
 -- `sums_answer`: question 8 and then question 9.
-use mathlib.Core.Path.{sym, ap, ◌∙◌}
+use mathlib.Core.Path.{refl, sym, ap, ◌∙◌}
 use Rattle.link.specs.Table.{table_of}
 use Rattle.path.specs.Records.{columns}
 use Rattle.link.specs.Lists.{first_no}
@@ -7,6 +7,7 @@ use Rattle.path.specs.Answers.{ask, ask_each}
 use Rattle.path.proofs.Clauses.{sound-within, some-link, some-records}
 use Rattle.path_join.specs.declared.path_end.PathEnd.{PathEnd}
 use Rattle.path_join.specs.Sums.{sums_from}
+use Rattle.path.proofs.Told.{handed-on, told-err, told-ok, numbered, once, each}
 use Rattle.path_extend.proofs.Asked.{path-end-start, sums-8, sums-9}
 use Rattle.path_extend.proofs.extend.sums_answer.Goals as goal
 
@@ -19,13 +20,13 @@ start_path_end-start-requires c =
     let w = (sound-within a.p l c.requires.districts_value).0 in
     let r = some-records a.p l w in record { link_count_nonzero = some-link a.p l w; grade_count_nonzero = r.0; curve_count_nonzero = r.1 }
 
-pub returns-then-first-ne0 : goal.returns-then-first-ne0
-returns-then-first-ne0 c =
+pub returns-in_err-ask_each : goal.returns-in_err-ask_each
+returns-in_err-ask_each c =
     let a = c.args in
     let l = columns a.offsets.now a.numbers.now a.grades.now a.curves.now a.speeds.now a.powers.now a.districts.now in
     let t = table_of a.links.now a.lengths.now a.sets.now a.elevs.now a.headings.now a.limits.now a.codes.now a.values.now a.link_powers.now a.link_districts.now in
     let ns = a.list.now in
-    sym (sums-8 a.train a.own.0 t ns a.p l (c.asked_each-first.ensures ∙ ap (ask_each 8) (c.sums_question-sums.ensures ∙ ap (λ (f : PathEnd). first_no (sums_from a.train a.own.0 t f ns)) (c.start_path_end-start.ensures ∙ path-end-start a.train t ns a.p l c.requires.districts_value))) c.if-first-ne0.true)
+    handed-on _ _ c.from_residual.ensures.1 ∙ sym (sums-8 a.train a.own.0 t ns a.p l (told-err (each _ _ c.ask_each.ensures) c.in_err-ask_each.was ∙ ap (ask_each 8) (c.sums_question-sums.ensures ∙ ap (λ (f : PathEnd). first_no (sums_from a.train a.own.0 t f ns)) (c.start_path_end-start.ensures ∙ path-end-start a.train t ns a.p l c.requires.districts_value))) (numbered _))
 
 pub records_fit-fit-requires : goal.records_fit-fit-requires
 records_fit-fit-requires c =
@@ -40,4 +41,4 @@ returns c =
     let l = columns a.offsets.now a.numbers.now a.grades.now a.curves.now a.speeds.now a.powers.now a.districts.now in
     let t = table_of a.links.now a.lengths.now a.sets.now a.elevs.now a.headings.now a.limits.now a.codes.now a.values.now a.link_powers.now a.link_districts.now in
     let ns = a.list.now in
-    c.asked.ensures ∙ ap (ask 9) c.records_fit-fit.ensures ∙ sym (sums-9 a.train a.own.0 t ns a.p l (c.asked_each-first.ensures ∙ ap (ask_each 8) (c.sums_question-sums.ensures ∙ ap (λ (f : PathEnd). first_no (sums_from a.train a.own.0 t f ns)) (c.start_path_end-start.ensures ∙ path-end-start a.train t ns a.p l c.requires.districts_value))) c.if-first-ne0.false)
+    once _ _ c.ask.ensures ∙ ap (ask 9) c.records_fit-fit.ensures ∙ sym (sums-9 a.train a.own.0 t ns a.p l (told-ok (each _ _ c.ask_each.ensures) c.in_ok-ask_each.was ∙ ap (ask_each 8) (c.sums_question-sums.ensures ∙ ap (λ (f : PathEnd). first_no (sums_from a.train a.own.0 t f ns)) (c.start_path_end-start.ensures ∙ path-end-start a.train t ns a.p l c.requires.districts_value))) refl)

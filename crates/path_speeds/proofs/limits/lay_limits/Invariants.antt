@@ -1,5 +1,4 @@
 -- `lay_limits`: what is left to lay from limit i on gives what was to be laid at first.
-use Prim.Native.Nat.{◌-◌}
 use Rattle.speed.specs.Column.{points}
 use Rattle.path_speeds.specs.Limits.{lay_all}
 use Rattle.path_speeds.proofs.Lowered.{to_lay}
