@@ -43,7 +43,8 @@ fn strictly_between(points: &SpeedPoints, l: SpeedLimit) -> bool
 
 // Lays the limit on the points of a column.
 pub fn insert_as_original(col: &mut SpeedColumn, l: SpeedLimit)
-    requires { HasRoom 2 col.old }
+    requires some { 0 < col.old.count }
+    requires room { HasRoom 2 col.old }
     ensures { Becomes col.old col.new
         (spec.insert_original (points_of col.old) l.offset_start.0 l.offset_end.0 l.speed.0) }
 {

@@ -1,20 +1,22 @@
 -- The drop at a new beginning: which point stays first, and what the move of it makes of the points.
-use Prim.Native.Nat.{ℕ, zero, suc, ◌-◌, ◌<◌}
+use Prim.Native.Nat.{ℕ, zero, suc, ◌-◌, ◌*◌, ◌≤◌, ◌<◌}
 use native.Mathlib.Omega.{arith}
-use mathlib.Core.Path.{◌≡◌, refl}
+use mathlib.Core.Path.{◌≡◌, refl, ap, ◌∙◌}
 use mathlib.Core.Bool.{Bool, true, false, cond}
 use mathlib.Core.List.{List, [], ◌∷◌}
 use lib.ListN.{length, drop}
 use lib.Seq.{drop-cons}
 use lib.Ieee as Ieee
 use lib.Ieee.{Float}
+use Rattle.ieee.specs.Number.{+0}
 use Rattle.ieee.proofs.Order.{of-true}
+use Rattle.column.specs.Entries.{move_front}
 use Rattle.speed.specs.Points.{Point, nowhere, offset_at, set_offset}
-use Rattle.speed.specs.Column.{points}
+use Rattle.speed.specs.Column.{points, Holds}
 use Rattle.speed.specs.Insert.{first_from}
 use Rattle.speed.specs.Clear.{is_at, move_to, clear_from, clear_points}
 use Rattle.speed.proofs.InsertSteps.{first-le}
-use Rattle.speed.proofs.PointColumn.{length-points}
+use Rattle.speed.proofs.PointColumn.{length-points, next-moved}
 
 -- ---- the first point that stays
 
@@ -58,8 +60,16 @@ module _ (X : Float) (ps : List Point) where
       go [] = refl
       go (q ∷ qs) = refl
 
--- of the first n points of a column
-pub kept-below : (c : List Float) (n : ℕ) (X : Float) (r : ℕ) → 0 < n → r ≡ clear_from (points n c) X → r < n
-kept-below c n X r h e =
-    let l = length-points n c in
-    omega (arith, clear-below X (points n c) (omega arith))
+-- of the first n points of a column, r the index of the one that stays first
+module _ (c : List Float) (n : ℕ) (X : Float) {ps : List Point} {r : ℕ} (some : 0 < n) (are : ps ≡ points n c) (from : r ≡ clear_from ps X) where
+  kept-is : r ≡ clear_from (points n c) X
+  kept-is = from ∙ ap (λ (qs : List Point). clear_from qs X) are
+
+  pub kept-below : r < n
+  kept-below = let l = length-points n c in omega (arith, kept-is, clear-below X (points n c) (omega arith))
+
+  pub kept-moved : (d : List Float) → 2 * n ≤ length c → d ≡ move_front +0 (2 * r) (2 * n) c
+      → (set_offset 0 X (points (n - r) d) ≡ clear_points (points n c) X) × Holds d (points (n - r) d)
+  kept-moved d room e =
+      let moved = next-moved c d n r (omega (arith, kept-below)) room e in
+      (ap (set_offset 0 X) (moved.0 ∙ ap (λ (k : ℕ). drop k (points n c)) kept-is) ∙ moved-first X (points n c), moved.1)

@@ -129,6 +129,7 @@ impl SpeedColumn<'_> {
 
     // A limit whose start lies before the last point.
     fn lay_limit(&mut self, l: SpeedLimit)
+        requires some { 0 < self.old.count }
         requires room { HasRoom 2 self.old }
         requires before_last { Ieee.le (offset_at (points_of self.old) (self.old.count - 1)) l.offset_start.0 ≡ false }
         ensures { Becomes self.old self.new
@@ -145,7 +146,8 @@ impl SpeedColumn<'_> {
 
     // The last point is at or before the limit's start, and its speed u is to become w.
     fn append_change(&mut self, l: SpeedLimit, u: Velocity, w: Velocity)
-        requires { HasRoom 2 self.old }
+        requires some { 0 < self.old.count }
+        requires room { HasRoom 2 self.old }
         ensures { Becomes self.old self.new
             (append_change (self.old.count - 1) l.offset_start.0 l.offset_end.0 u.0 w.0 (points_of self.old)) }
     {
@@ -165,7 +167,8 @@ impl SpeedColumn<'_> {
 
     // A limit whose start is at or after the last point.
     fn append_limit(&mut self, l: SpeedLimit)
-        requires { HasRoom 2 self.old }
+        requires some { 0 < self.old.count }
+        requires room { HasRoom 2 self.old }
         ensures { Becomes self.old self.new
             (append_limit l.offset_start.0 l.offset_end.0 l.speed.0 (points_of self.old)) }
     {
@@ -179,7 +182,8 @@ impl SpeedColumn<'_> {
 
     // Lays the limit.
     pub fn insert_speed(&mut self, l: SpeedLimit)
-        requires { HasRoom 2 self.old }
+        requires some { 0 < self.old.count }
+        requires room { HasRoom 2 self.old }
         ensures { Becomes self.old self.new
             (insert_speed (points_of self.old) l.offset_start.0 l.offset_end.0 l.speed.0) }
     {

@@ -8,12 +8,11 @@ use crate::speed_point::{SpeedLimitPoint, SpeedPoints};
 use column::Two;
 use si::{Length, Velocity};
 
-// The column that the caller lends, and how many points it holds: one at least.
+// The column that the caller lends, and how many points it holds.
 #[derive(Drop)]
 pub struct SpeedColumn<'a> {
     pub col: &'a mut [f64],
     pub count: usize,
-    pub ghost some: { 0 < count },
     pub ghost holds: { Holds col.now (points count col.now) },
 }
 
@@ -73,10 +72,9 @@ impl SpeedColumn<'_> {
         self.count += 2;
     }
 
-    // Takes point i out, which is not the first.
+    // Takes point i out.
     pub fn remove_point(&mut self, i: usize)
-        requires not_first { 0 < i }
-        requires i_lt_count { i < self.old.count }
+        requires { i < self.old.count }
         ensures becomes { Becomes self.old self.new (remove_at i (points_of self.old)) }
         ensures count { self.new.count ≡ self.old.count - 1 }
     {

@@ -5,7 +5,7 @@ use mathlib.Core.List.{List, [], ◌∷◌, ◌++◌}
 use Prim.Native.Nat.{ℕ, zero, suc, ◌+◌, ◌-◌, ◌≤◌, ◌<◌}
 use native.Mathlib.Nat.{not-suc-le-zero}
 use native.Mathlib.Omega.{arith}
-use lib.Dec.{T, ltb, ltb→lt}
+use lib.Dec.{T}
 use lib.ListN.{length, take, drop, length-append, length-take, length-drop, length-set}
 use lib.Ieee as Ieee
 use lib.Ieee.{Float}
@@ -16,7 +16,7 @@ use Rattle.ieee.proofs.Order.{of-true}
 use Rattle.column.specs.Entries.{insert_at, remove_at}
 use Rattle.speed.specs.Points.{Point, point, offset_at, speed_at, set_speed, set_offset, repeats}
 use Rattle.speed.specs.Insert.{drop_repeat, merge, next_index, next_points, ends, lay_end, starts, lay_start, between, splits, lay_between, lay_from, lay_limit, append_change, append_limit, insert_speed, first_from, last_from}
-use Rattle.speed.proofs.InsertSteps.{length_inserted, start-after, between-some}
+use Rattle.speed.proofs.InsertSteps.{length_inserted, repeats-after, start-after, between-some}
 use Rattle.speed_laws.proofs.Insert.{first_some}
 
 -- ---- the first offset, change by change
@@ -39,9 +39,6 @@ first-moved (suc i) o (q ∷ ps) z = refl
 first-appended : (ps qs : List Point) → 0 < length ps → offset_at (ps ++ qs) 0 ≡ offset_at ps 0
 first-appended [] qs z = absurd (not-suc-le-zero z)
 first-appended (p ∷ ps) qs z = refl
-
-repeats-after : (i : ℕ) (w : Float) (ps : List Point) → repeats i w ps ≡ true → 0 < i
-repeats-after i w ps k = ltb→lt 0 i (and_l (ltb 0 i) (Ieee.eq (speed_at ps (i - 1)) w) (of-true k))
 
 -- ---- step by step
 

@@ -10,7 +10,7 @@ use Rattle.original.proofs.Inserted.{found_inside, as-original, as-port}
 use Rattle.original.proofs.insert.insert_as_original.Goals as goal
 
 pub strictly_between-between-requires : goal.strictly_between-between-requires
-strictly_between-between-requires c = omega (arith, c.args.col.now.some, c.points.ensures.count)
+strictly_between-between-requires c = omega (arith, c.requires.some, c.points.ensures.count)
 
 pub not_released-requires : goal.not_released-requires
 not_released-requires c =
@@ -20,8 +20,8 @@ not_released-requires c =
     let e = a.l.offset_end.0 in
     let tested = c.strictly_between-between.ensures ∙ ap (strictly_between s e) c.points.ensures.are in
     let first = c.first_from-i.ensures ∙ ap (first_from s) c.points-then-between.ensures.are in
-    let inside = found_inside s e (points_of d) d.count (length-points d.count d.col.now) d.some (sym tested ∙ c.if-between.true) in
-    record { i_nonzero = omega (arith, inside.0, first); i_lt_count = omega (arith, inside.1, first); room = omega (arith, c.requires) }
+    let inside = found_inside s e (points_of d) d.count (length-points d.count d.col.now) c.requires.some (sym tested ∙ c.if-between.true) in
+    record { i_nonzero = omega (arith, inside.0, first); i_lt_count = omega (arith, inside.1, first); room = omega (arith, c.requires.room) }
 
 pub returns-then-between : goal.returns-then-between
 returns-then-between c =

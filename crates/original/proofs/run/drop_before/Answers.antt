@@ -38,7 +38,7 @@ invariant_of-rest c =
     let m = c.points_in-m.result in
     let l = c.points_in-m.ensures in
     let first = c.first_from-from.ensures ∙ ap (first_from a.x.0) c.new.ensures.are in
-    record { some = omega arith; holds = rest-held a.x.0 d m c.first_from-from.result first (omega (arith, l.count, l.holds.fits)) c.move_front.ensures }
+    record { holds = rest-held a.x.0 d m c.first_from-from.result first (omega (arith, l.count, l.holds.fits)) c.move_front.ensures }
 
 pub returns : goal.returns
 returns c =

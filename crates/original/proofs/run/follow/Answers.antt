@@ -28,10 +28,10 @@ returns-then-col-m c =
     (sym (follow-full (length a.col.now) ps _ _ _ (omega arith) (omega arith)))
 
 pub invariant_of-points : goal.invariant_of-points
-invariant_of-points c = record { some = omega arith; holds = c.requires }
+invariant_of-points c = record { holds = c.requires }
 
 pub insert_as_original-requires : goal.insert_as_original-requires
-insert_as_original-requires c = omega arith
+insert_as_original-requires c = record { some = omega arith; room = omega arith }
 
 pub returns : goal.returns
 returns c =

@@ -5,11 +5,8 @@ use lib.Ieee.{Float}
 use Rattle.speed.specs.Points.{Point, speed_at, repeats}
 use Rattle.speed.specs.Becomes.{points_of}
 use Rattle.speed.proofs.PointColumn.{unchanged, becomes-as}
-use Rattle.speed.proofs.InsertSteps.{repeats-after, repeat-dropped, repeat-kept}
+use Rattle.speed.proofs.InsertSteps.{repeat-dropped, repeat-kept}
 use Rattle.speed.proofs.speed_column.SpeedColumn.drop_repeat.Goals as goal
-
-pub remove_point-requires-clause-not_first : goal.remove_point-requires-clause-not_first
-remove_point-requires-clause-not_first c = repeats-after c.args.i c.speed_at-u.result.0 c.points-2.result (sym c.repeats_before.ensures ∙ c.if-repeats_before.true)
 
 pub returns-then-repeats_before : goal.returns-then-repeats_before
 returns-then-repeats_before c =

@@ -1,6 +1,5 @@
 -- `insert_point`: a gap of two entries, and a point in it.
 use mathlib.Core.Path.{refl, ◌∙◌}
-use native.Mathlib.Omega.{arith}
 use Rattle.column.specs.declared.Two.{Two}
 use Rattle.speed.specs.Points.{point_of}
 use Rattle.speed.proofs.PointColumn.{inserted, next-inserted}
@@ -11,7 +10,7 @@ invariant_of-self c =
     let s = c.args.self.now in
     let p = c.args.p in
     let r : Two = record { 0 = p.offset.0; 1 = p.speed_limit.0 } in
-    record { some = omega arith; holds = (next-inserted s.col.now _ s.count c.args.i (point_of p) (rw (c.put_record.ensures, c.open_gap.ensures) (inserted s.col.now s.count s.holds c.args.i r c.requires.i_le_count c.requires.room))).1 }
+    record { holds = (next-inserted s.col.now _ s.count c.args.i (point_of p) (rw (c.put_record.ensures, c.open_gap.ensures) (inserted s.col.now s.count s.holds c.args.i r c.requires.i_le_count c.requires.room))).1 }
 
 pub returns-clause-becomes : goal.returns-clause-becomes
 returns-clause-becomes c =

@@ -25,7 +25,7 @@ lay_limit-requires c =
     let n = a.self.now.count in
     let s = a.l.offset_start.0 in
     let o = c.offset_at.ensures ∙ ap (λ (qs : List Point). offset_at qs (n - 1)) c.points.ensures.are in
-    record { room = c.requires; before_last = sym (ap (λ (x : Float). Ieee.le x s) o) ∙ c.if-offset_at-l.false }
+    record { some = c.requires.some; room = c.requires.room; before_last = sym (ap (λ (x : Float). Ieee.le x s) o) ∙ c.if-offset_at-l.false }
 
 pub returns-else-offset_at-l : goal.returns-else-offset_at-l
 returns-else-offset_at-l c =

@@ -1,6 +1,5 @@
 -- `insert_two`: a gap of four entries, and two points in it.
 use mathlib.Core.Path.{refl, ◌∙◌}
-use native.Mathlib.Omega.{arith}
 use Rattle.column.specs.declared.Two.{Two}
 use Rattle.speed.specs.Points.{point_of}
 use Rattle.speed.proofs.PointColumn.{two-inserted, next-two}
@@ -14,7 +13,6 @@ invariant_of-self c =
     let r : Two = record { 0 = p.offset.0; 1 = p.speed_limit.0 } in
     let t : Two = record { 0 = q.offset.0; 1 = q.speed_limit.0 } in
     record {
-      some = omega arith;
       holds = (next-two s.col.now _ s.count c.args.i (point_of p) (point_of q)
           (rw (c.put_record-2.ensures, c.put_record.ensures, c.open_gap.ensures) (two-inserted s.col.now s.count s.holds c.args.i r t c.requires.i_le_count c.requires.room))).1;
     }

@@ -9,19 +9,12 @@ use Rattle.speed.specs.Points.{Point, speed_at, set_speed, repeats}
 use Rattle.speed.specs.Becomes.{points_of}
 use Rattle.speed.specs.Insert.{merge, drop_repeat}
 use Rattle.speed.proofs.PointColumn.{unchanged, becomes-as, becomes-next, becomes-on}
-use Rattle.speed.proofs.InsertSteps.{repeats-after, merge-done, merge-removed, merge-stored}
+use Rattle.speed.proofs.InsertSteps.{merge-done, merge-removed, merge-stored}
 use Rattle.speed.proofs.speed_column.SpeedColumn.merge_range.Goals as goal
 use Rattle.speed.proofs.speed_column.SpeedColumn.merge_range.Goals.{then-repeats_before, else-repeats_before}
 
 pub loop-init : goal.loop-init
 loop-init c = (omega arith, unchanged _ _ refl, refl)
-
-pub remove_point-requires : goal.remove_point-requires
-remove_point-requires c =
-    record {
-      not_first = repeats-after c.loop.a c.min_speed-w.result.0 c.points-in-loop.result (sym c.repeats_before.ensures ∙ c.if-repeats_before.true);
-      i_lt_count = omega (arith, c.loop.invariant.0);
-    }
 
 pub loop-preserved : goal.loop-preserved
 loop-preserved c =

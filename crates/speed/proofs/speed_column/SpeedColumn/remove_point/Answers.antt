@@ -13,9 +13,9 @@ overflow_mul-self c = let s = c.args.self.now in omega (arith, fits-points s.col
 pub invariant_of-self : goal.invariant_of-self
 invariant_of-self c =
     let s = c.args.self.now in
-    record { some = omega arith; holds = (next-removed s.col.now _ s.count c.args.i c.requires.i_lt_count (rw c.close_gap.ensures (removed s.col.now s.count s.holds c.args.i c.requires.i_lt_count))).1 }
+    record { holds = (next-removed s.col.now _ s.count c.args.i c.requires (rw c.close_gap.ensures (removed s.col.now s.count s.holds c.args.i c.requires))).1 }
 
 pub returns-clause-becomes : goal.returns-clause-becomes
 returns-clause-becomes c =
     let s = c.args.self.now in
-    record { same = refl; long = c.close_gap.auto.col; holds = (next-removed s.col.now _ s.count c.args.i c.requires.i_lt_count (rw c.close_gap.ensures (removed s.col.now s.count s.holds c.args.i c.requires.i_lt_count))).0 }
+    record { same = refl; long = c.close_gap.auto.col; holds = (next-removed s.col.now _ s.count c.args.i c.requires (rw c.close_gap.ensures (removed s.col.now s.count s.holds c.args.i c.requires))).0 }

@@ -21,7 +21,7 @@ invariant_of-self c =
     let s = c.args.self.now in
     let i = c.args.i in
     let o = c.args.o.0 in
-    record { some = s.some; holds = (next-set s.col.now _ s.count i (point o (speed_at (points s.count s.col.now) i)) (offset-stored s.col.now s.count s.holds i o c.requires)).1 }
+    record { holds = (next-set s.col.now _ s.count i (point o (speed_at (points s.count s.col.now) i)) (offset-stored s.col.now s.count s.holds i o c.requires)).1 }
 
 pub returns-clause-becomes : goal.returns-clause-becomes
 returns-clause-becomes c =

@@ -24,7 +24,7 @@ invariant_of-self c =
     let s = c.args.self.now in
     let i = c.args.i in
     let v = c.args.v.0 in
-    record { some = s.some; holds = (next-set s.col.now _ s.count i (point (offset_at (points s.count s.col.now) i) v) (speed-stored s.col.now s.count s.holds i v c.requires)).1 }
+    record { holds = (next-set s.col.now _ s.count i (point (offset_at (points s.count s.col.now) i) v) (speed-stored s.col.now s.count s.holds i v c.requires)).1 }
 
 pub returns-clause-becomes : goal.returns-clause-becomes
 returns-clause-becomes c =
