@@ -25,7 +25,7 @@ pub struct Network<'a> {
 }
 
 // The numbers of a link: its own and its neighbours', and first and count of what it has in the pools.
-#[derive(Clone, Copy)]
+#[derive(Clone, Copy, Debug, PartialEq, Eq)]
 pub struct LinkNumbers {
     pub idx_curr: u32,
     pub idx_next: u32,

@@ -17,16 +17,12 @@ pub enum SpeedParam {
 fn speed_param(kind: u32, v: f64) -> Option<SpeedParam>
     ensures { param_told result ≡ param_told (param_of kind v) }
 {
-    if kind == 3 {
-        return Some(SpeedParam::MassTotal(v));
+    match kind {
+        3 => Some(SpeedParam::MassTotal(v)),
+        4 => Some(SpeedParam::MassPerBrake(v)),
+        5 => Some(SpeedParam::AxleCount(v)),
+        _ => None,
     }
-    if kind == 4 {
-        return Some(SpeedParam::MassPerBrake(v));
-    }
-    if kind == 5 {
-        return Some(SpeedParam::AxleCount(v));
-    }
-    None
 }
 
 // Comparison codes 1 to 5: =, >, <, >=, <=. Which of the five a code asks for; none for another code.
@@ -40,22 +36,14 @@ fn by_code(
 ) -> bool
     ensures { result ≡ by_code code equal above below not_below not_above }
 {
-    if code == 1 {
-        return equal;
+    match code {
+        1 => equal,
+        2 => above,
+        3 => below,
+        4 => not_below,
+        5 => not_above,
+        _ => false,
     }
-    if code == 2 {
-        return above;
-    }
-    if code == 3 {
-        return below;
-    }
-    if code == 4 {
-        return not_below;
-    }
-    if code == 5 {
-        return not_above;
-    }
-    false
 }
 
 // The train's figure on the left.

@@ -10,7 +10,7 @@ use crate::speed_param::condition_formed;
 use crate::train_params::{TrainType, type_number};
 
 // A set place: flags are 0 or 1 if they are known; first and count of its conditions and of its limits.
-#[derive(Clone, Copy)]
+#[derive(Clone, Copy, Debug, PartialEq, Eq)]
 pub struct SpeedSet {
     pub present: u32,
     pub is_head_end: u32,

@@ -8,7 +8,7 @@ ghost use Rattle.link.specs.Table.{condition_at};
 use crate::speed_param::condition_holds;
 use si::{Length, Mass, Ratio, Velocity};
 
-#[derive(Clone, Copy)]
+#[derive(Clone, Copy, Debug, PartialEq, Eq)]
 pub enum TrainType {
     None,
     Freight,
@@ -36,15 +36,7 @@ pub struct TrainParams {
 pub fn type_number(t: TrainType) -> usize
     ensures { result ≡ type_number t }
 {
-    match t {
-        TrainType::None => 0,
-        TrainType::Freight => 1,
-        TrainType::Passenger => 2,
-        TrainType::Intermodal => 3,
-        TrainType::HighSpeedPassenger => 4,
-        TrainType::TiltTrain => 5,
-        TrainType::Commuter => 6,
-    }
+    t as usize
 }
 
 // A set applies if its first condition holds and the rest of the list applies; an empty list applies.

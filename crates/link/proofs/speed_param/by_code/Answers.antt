@@ -1,28 +1,30 @@
 -- `by_code`: by the code.
+use Rattle.std.proofs.Common.{arith, ne_eqb}
 use Rattle.link.specs.Condition.{by_code}
-use Rattle.link.proofs.Conditions.{no-comparison}
 use Rattle.link.proofs.speed_param.by_code.Goals as goal
 
-pub returns-then-code-eq1 : goal.returns-then-code-eq1
+pub returns-in-1 : goal.returns-in-1
 unfolding by_code
-returns-then-code-eq1 c = rw c.if-code-eq1.true
+returns-in-1 c = rw c.in-1.is
 
-pub returns-then-code-eq2 : goal.returns-then-code-eq2
+pub returns-in-2 : goal.returns-in-2
 unfolding by_code
-returns-then-code-eq2 c = rw c.if-code-eq2.true
+returns-in-2 c = rw c.in-2.is
 
-pub returns-then-code-eq3 : goal.returns-then-code-eq3
+pub returns-in-3 : goal.returns-in-3
 unfolding by_code
-returns-then-code-eq3 c = rw c.if-code-eq3.true
+returns-in-3 c = rw c.in-3.is
 
-pub returns-then-code-eq4 : goal.returns-then-code-eq4
+pub returns-in-4 : goal.returns-in-4
 unfolding by_code
-returns-then-code-eq4 c = rw c.if-code-eq4.true
+returns-in-4 c = rw c.in-4.is
 
-pub returns-then-code-eq5 : goal.returns-then-code-eq5
+pub returns-in-5 : goal.returns-in-5
 unfolding by_code
-returns-then-code-eq5 c = rw c.if-code-eq5.true
+returns-in-5 c = rw c.in-5.is
 
-pub returns : goal.returns
+pub returns-in_default : goal.returns-in_default
 unfolding by_code
-returns c = no-comparison c.args.code _ _ _ _ _ c.if-code-eq1.false c.if-code-eq2.false c.if-code-eq3.false c.if-code-eq4.false c.if-code-eq5.false
+returns-in_default c =
+    let code = c.args.code in
+    rw (ne_eqb code 1 (omega arith), ne_eqb code 2 (omega arith), ne_eqb code 3 (omega arith), ne_eqb code 4 (omega arith), ne_eqb code 5 (omega arith))

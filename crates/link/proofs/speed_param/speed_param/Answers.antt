@@ -1,20 +1,22 @@
 -- `speed_param`: by the kind's code.
-use Rattle.std.proofs.Common.{ne_eqb}
+use Rattle.std.proofs.Common.{arith, ne_eqb}
 use Rattle.link.specs.Condition.{param_of}
 use Rattle.link.proofs.speed_param.speed_param.Goals as goal
 
-pub returns-then-kind-eq3 : goal.returns-then-kind-eq3
+pub returns-in-3 : goal.returns-in-3
 unfolding param_of
-returns-then-kind-eq3 c = rw c.if-kind-eq3.true
+returns-in-3 c = rw c.in-3.is
 
-pub returns-then-kind-eq4 : goal.returns-then-kind-eq4
+pub returns-in-4 : goal.returns-in-4
 unfolding param_of
-returns-then-kind-eq4 c = rw c.if-kind-eq4.true
+returns-in-4 c = rw c.in-4.is
 
-pub returns-then-kind-eq5 : goal.returns-then-kind-eq5
+pub returns-in-5 : goal.returns-in-5
 unfolding param_of
-returns-then-kind-eq5 c = rw c.if-kind-eq5.true
+returns-in-5 c = rw c.in-5.is
 
-pub returns : goal.returns
+pub returns-in_default : goal.returns-in_default
 unfolding param_of
-returns c = rw (ne_eqb _ 3 c.if-kind-eq3.false, ne_eqb _ 4 c.if-kind-eq4.false, ne_eqb _ 5 c.if-kind-eq5.false)
+returns-in_default c =
+    let kind = c.args.kind in
+    rw (ne_eqb kind 3 (omega arith), ne_eqb kind 4 (omega arith), ne_eqb kind 5 (omega arith))
