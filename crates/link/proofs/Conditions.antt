@@ -1,4 +1,4 @@
--- Laws of conditions: an unknown comparison code, the axle limit by its size, a kind by its code, question 6, and a list of conditions.
+-- Laws of conditions: the axle limit by its size, a kind by its code, question 6, and a list of conditions.
 use Rattle.std.proofs.Common.{◌≡◌, ℕ, zero, suc, ◌+◌, ◌-◌, ◌*◌, ◌/◌, ◌^◌, ◌<◌, ◌≤◌, min, Bool, true, false, ◌&&◌, T, leb, pos, sym, refl, ap, ◌∙◌, mul-pos, le-div_iff_mul-le, add-one, arith, le→leb, leb→le, ne_eqb, le-leb, leb-false, leb-true, Option, Some, None}
 use lib.Ieee as Ieee
 use lib.Ieee.{Float, nan, inf, fin, up, down}
@@ -11,12 +11,6 @@ use Rattle.link.specs.declared.speed_param.SpeedParam.{SpeedParam}
 use Rattle.link.specs.declared.speed_param.SpeedParam.TheVariants.{MassTotal, MassPerBrake, AxleCount}
 use Rattle.link.specs.Lists.{every, up_from}
 use Rattle.link.specs.Condition.{Condition, by_code, holds, applies, axle_limit, param_of, ParamTold, param_told, condition_formed}
-
--- ---- a comparison code that is none of the five
-pub no-comparison : (code : ℕ) (a b c d e : Bool) → (code ≡ 1 → ⊥) → (code ≡ 2 → ⊥) → (code ≡ 3 → ⊥) → (code ≡ 4 → ⊥) → (code ≡ 5 → ⊥)
-    → false ≡ by_code code a b c d e
-unfolding by_code
-no-comparison code a b c d e h₁ h₂ h₃ h₄ h₅ = rw (ne_eqb code 1 h₁, ne_eqb code 2 h₂, ne_eqb code 3 h₃, ne_eqb code 4 h₄, ne_eqb code 5 h₅)
 
 -- ---- the axle limit
 -- a whole number
