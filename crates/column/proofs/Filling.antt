@@ -44,15 +44,6 @@ module _ {A : Type 0} (z : A) where
       let e : length l - length (take i l) ≡ length l - i = omega (arith, length-take i l) in
       rw e
 
-  zero_one : (l : List A) (i : ℕ) → i < length l → take (i + 1) (set l i z) ++ replicate (length (set l i z) - (i + 1)) z ≡ take i l ++ replicate (length l - i) z
-  zero_one l i h =
-      let e : length l - i ≡ suc (length l - (i + 1)) = omega arith in
-      rw (length-set, add-one, take-suc-set, append_assoc, e, add-one)
-
-  -- one entry is zeroed, and the rest is left to do
-  pub zero_more : (l : List A) (i : ℕ) → i < length l → zero_from z (i + 1) (set l i z) ≡ zero_from z i l
-  zero_more l i h = zero_is (i + 1) (set l i z) ∙ zero_one l i h ∙ sym (zero_is i l)
-
   -- nothing is left
   pub zero-none : (l : List A) (i : ℕ) → length l ≤ i → zero_from z i l ≡ l
   zero-none l i h =

@@ -2,7 +2,6 @@
 use Prim.Native.Nat.{◌+◌}
 use mathlib.Core.Path.{◌≡◌, refl, sym, ap₂, ◌∙◌}
 use mathlib.Core.Bool.{◌&&◌, false}
-use native.Mathlib.Omega.{arith}
 use lib.ListN.{take, get_or}
 use lib.Ieee.{nan, binary64}
 use lib.Ieee.Scale.{finite}

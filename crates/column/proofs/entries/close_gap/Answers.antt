@@ -21,7 +21,7 @@ returns-then-w-end g c =
     let long : end ≤ length m = omega (arith, c.copy_within.ensures.len) in
     let n : end - (c.args.at + w) ≡ end - c.args.at - w = omega arith in
     zeros_put g.T.Entry.zero m (end - w) end c.fill.new.self (omega arith) long
-      (c.fill.ensures.after (g.met.T.Entry.same_copied _) ∙ copies m (end - w) end _ _ long c.zero.ensures)
+    (c.fill.ensures.after (g.met.T.Entry.same_copied _) ∙ copies m (end - w) end _ _ long c.zero.ensures)
     ∙ ap (zero_range g.T.Entry.zero (end - w) end) (c.copy_within.ensures.after ∙ ap (λ (k : ℕ). moved c.args.at (c.args.at + w) k l) n)
     ∙ close-moved g.T.Entry.zero _ _ _ l (omega arith) (omega arith)
 

@@ -1,6 +1,5 @@
 -- `open_gap`: the stretch moves up, where there is room.
-use Rattle.std.proofs.Common.{◌-◌, ◌+◌, ℕ}
-use mathlib.Core.Path.{◌≡◌, sym, ap, ◌∙◌}
+use mathlib.Core.Path.{sym, ◌∙◌}
 use native.Mathlib.Omega.{arith}
 use Rattle.column.specs.Entries.{moved}
 use Rattle.column.proofs.Gaps.{open-moved, open_order, open_full}

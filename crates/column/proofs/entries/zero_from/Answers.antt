@@ -15,7 +15,7 @@ returns-then-from-col g c =
     let l = c.args.col.now in
     tail_put l c.args.from c.fill.new.self
     ∙ ap (λ (x : List _). take c.args.from l ++ x)
-      (c.fill.ensures.after (g.met.T.Entry.same_copied _) ∙ copies l c.args.from (length l) _ _ (omega arith) c.zero.ensures)
+    (c.fill.ensures.after (g.met.T.Entry.same_copied _) ∙ copies l c.args.from (length l) _ _ (omega arith) c.zero.ensures)
     ∙ sym (zero_is _ c.args.from l)
 
 pub returns-else-from-col : goal.returns-else-from-col

@@ -1,9 +1,8 @@
 -- `put_record`: the entries stored at the front of what is behind the record's first one.
 use mathlib.Core.Path.{◌≡◌, sym, ap, ◌∙◌}
-use native.Mathlib.Omega.{arith}
 use Prim.Native.Nat.{ℕ, ◌*◌, ◌<◌, ◌≤◌}
 use mathlib.Core.List.{List, ◌++◌}
-use lib.ListN.{length, take, drop}
+use lib.ListN.{length, take}
 use lib.Seq.{sets}
 use Rattle.column.specs.Records.{put_record}
 use Rattle.column.proofs.ByEntry.{put-past, tail_whole, tail_put, sets-behind, past_end, before_end}

@@ -1,6 +1,5 @@
 -- `record_at`: the record at the front of what is behind its first entry.
 use mathlib.Core.Path.{◌≡◌, sym, ap, ◌∙◌}
-use native.Mathlib.Omega.{arith}
 use Prim.Native.Nat.{ℕ, ◌*◌, ◌<◌}
 use lib.ListN.{length, drop}
 use Rattle.column.specs.Records.{record_at}
