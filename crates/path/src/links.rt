@@ -1,6 +1,6 @@
 // Questions 4 to 7 of the links that a list, or link points, name.
 ghost use Rattle.std.specs.Prelude.{◌≡◌};
-ghost use Rattle.link.specs.Table.{table_of};
+ghost use Rattle.link.specs.Table.{table};
 ghost use Rattle.link.specs.Questions as questions;
 ghost use Rattle.answer.specs.Answers.{answer};
 ghost use Rattle.path.specs.Answers.{links_answer};
@@ -15,34 +15,11 @@ pub fn links_answer(
     points: bool,
     count: usize,
     fifth: Option<usize>,
-    links: &[u32],
-    lengths: &[f64],
-    sets: &[u32],
-    elevs: &[f64],
-    headings: &[f64],
-    limits: &[f64],
-    codes: &[u32],
-    values: &[f64],
-    powers: &[f64],
-    districts: &[u32],
+    network: &Network,
     kind: TrainType,
 ) -> Result<(), Refusal>
-    ensures { answer result ≡ links_answer
-        (table_of links.now lengths.now sets.now elevs.now headings.now limits.now codes.now values.now powers.now districts.now) kind fifth
-        (questions.numbers points list.now count) }
+    ensures { answer result ≡ links_answer (table network.now) kind fifth (questions.numbers points list.now count) }
 {
-    let network = Network {
-        links,
-        lengths,
-        sets,
-        elevs,
-        headings,
-        limits,
-        codes,
-        values,
-        powers,
-        districts,
-    };
     Question::InTable.ask_each(network.question4(list, points, count))?;
     Question::Follows.ask_each(fifth)?;
     let formed = network.question6(list, points, count);

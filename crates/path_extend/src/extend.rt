@@ -12,6 +12,7 @@ ghost use Rattle.path_extend.specs.Extend as spec;
 ghost use Rattle.path_extend.specs.Ready as ready;
 
 use answer::{Answer, Question, Refusal};
+use link::network::Network;
 use link::questions::question5;
 use link::train_params::TrainParams;
 use lookup::path_res_coeff::coeff_at;
@@ -188,11 +189,7 @@ fn extend_answer(
     path_answer(p, train_finite(train), &cols)?;
     let closed = p.is_finished;
     Question::Open.ask(!closed)?;
-    links_answer(
-        list,
-        false,
-        list.len(),
-        follow_question(offsets, numbers, p.link_count, list, links),
+    let network = Network {
         links,
         lengths,
         sets,
@@ -201,8 +198,15 @@ fn extend_answer(
         limits,
         codes,
         values,
-        link_powers,
-        link_districts,
+        powers: link_powers,
+        districts: link_districts,
+    };
+    links_answer(
+        list,
+        false,
+        list.len(),
+        follow_question(offsets, numbers, p.link_count, list, links),
+        &network,
         train.train_type,
     )?;
     let own = train.length;

@@ -14,6 +14,7 @@ ghost use Rattle.path_speeds.specs.Recalc as spec;
 use crate::add_speeds::{lay_links, points_count, points_finite};
 use answer::{Answer, Question, Refusal};
 use column::{Two, put_record};
+use link::network::Network;
 use link::train_params::TrainParams;
 use path::columns::PathColumns;
 use path::finite::train_finite;
@@ -89,11 +90,7 @@ fn recalc_answer(
     };
     path_answer(p, train_finite(train), &cols)?;
     let count = p.link_count - 1;
-    links_answer(
-        numbers,
-        true,
-        count,
-        None,
+    let network = Network {
         links,
         lengths,
         sets,
@@ -102,10 +99,10 @@ fn recalc_answer(
         limits,
         codes,
         values,
-        link_powers,
-        link_districts,
-        train.train_type,
-    )?;
+        powers: link_powers,
+        districts: link_districts,
+    };
+    links_answer(numbers, true, count, None, &network, train.train_type)?;
     let own = train.length;
     limits_answer(
         offsets, numbers, speeds, count, sets, codes, values, limits, own, train,
