@@ -1,69 +1,56 @@
--- Codes of words: a list of words walked entry by entry, tables with other codes, and bounds.
-use Prim.Native.Nat.{ℕ, suc, ◌+◌, ◌-◌, ◌≤◌, ◌<◌}
-use native.Mathlib.Numerals.{add-one}
-use native.Mathlib.Omega.{arith}
-use mathlib.Core.Path.{◌≡◌, refl, sym}
-use mathlib.Core.Bool.{Bool, true, false, cond}
-use mathlib.Core.List.{List, [], ◌∷◌, map}
-use Rattle.route.specs.Text.{field_from, bytes_of}
+-- What words mean: a table of words walked entry by entry, and a table made of another.
+use Rattle.std.proofs.Common.{◌≡◌, refl, sym, ap, ◌∙◌, ℕ, ◌+◌, ◌<◌, ◌≤◌, Bool, true, false, cond, List, [], ◌∷◌, map, length, drop, get_or, Option, Some, None, option_map, arith}
+use Rattle.std.proofs.lemmas.List.{drop_more}
+use lib.ListN.{drop_of_length-le}
+use Rattle.link.specs.declared.train_params.TrainType.{TrainType}
+use Rattle.link.specs.declared.train_params.TrainType.TheVariants as Trains
+use Rattle.link.specs.Train.{type_number}
 use Rattle.route.specs.Fields.{same}
-use Rattle.route.specs.Codes.{Entry, code_of, numbered, one_more}
-use Rattle.route.specs.declared.text.Span.{Span}
-
--- ---- the word s at `at`, of bytes b, whose code is n of those up to `end`; r is whether it is w
-module _ (other : ℕ) (w words : List ℕ) (at n end : ℕ) where
-  pub code-none : end ≤ n → other ≡ code_of other (numbered words at n (end - n)) w
-  unfolding code_of numbered
-  code-none h =
-      let e : end - n ≡ 0 = omega arith in
-      rw e
-
-  module _ (s : Span) (b : List ℕ) (r : Bool) (h : n < end) (es : s ≡ field_from words at) (eb : b ≡ bytes_of words s) (er : r ≡ same w b) where
-    abbrev rest : ℕ
-    rest = code_of other (numbered words s.to (n + 1) (end - (n + 1))) w
-
-    code_here : code_of other (numbered words at n (end - n)) w ≡ cond r n rest
-    unfolding code_of numbered
-    code_here =
-        let e : end - n ≡ suc (end - (n + 1)) = omega arith in
-        rw (e, add-one, er, eb, es)
-
-    pub code-found : r ≡ true → n ≡ code_of other (numbered words at n (end - n)) w
-    code-found e = sym (rw e at code_here)
-
-    pub code-next : r ≡ false → rest ≡ code_of other (numbered words at n (end - n)) w
-    code-next e = sym (rw e at code_here)
+use Rattle.route.specs.Codes.{Entry, code_of}
 
 -- ---- a table's entry e before the others
-module _ (other : ℕ) (e : Entry) (table : List Entry) (w : List ℕ) (r : Bool) (er : r ≡ same w e.word) where
-  pub first-is : r ≡ true → e.code ≡ code_of other (e ∷ table) w
+module _ {A : Type 0} (e : Entry A) (table : List (Entry A)) (w : List ℕ) (r : Bool) (er : r ≡ same w e.word) where
+  pub first-is : r ≡ true → Some e.code ≡ code_of (e ∷ table) w
   unfolding code_of
   first-is h = rw (← er, h)
 
-  pub first-not : r ≡ false → code_of other table w ≡ code_of other (e ∷ table) w
+  pub first-not : r ≡ false → code_of table w ≡ code_of (e ∷ table) w
   unfolding code_of
   first-not h = rw (← er, h)
 
--- ---- codes that are all one more
-cond-suc : (b : Bool) (m n : ℕ) → cond b (suc m) (suc n) ≡ suc (cond b m n)
-cond-suc true m n = refl
-cond-suc false m n = refl
+-- ---- a table whose words mean f of what they meant
+cond-map : {A B : Type 0} (f : A → B) (b : Bool) (x : A) (o : Option A) → cond b (Some (f x)) (option_map f o) ≡ option_map f (cond b (Some x) o)
+cond-map f true x o = refl
+cond-map f false x o = refl
 
-pub code-more : (other : ℕ) (table : List Entry) (w : List ℕ) → code_of (suc other) (map one_more table) w ≡ suc (code_of other table w)
+pub code-map : {A B : Type 0} (f : A → B) (table : List (Entry A)) (w : List ℕ) → code_of (map (λ e. record { word = e.word; code = f e.code }) table) w ≡ option_map f (code_of table w)
 unfolding code_of
-code-more other [] w = refl
-code-more other (e ∷ table) w = rw (code-more other table w, cond-suc)
+code-map f [] w = refl
+code-map f (e ∷ table) w = rw (code-map f table w, cond-map f (same w e.word) e.code (code_of table w))
 
--- ---- codes up to n
-abbrev pub UpTo : ℕ → List Entry → Type 0
-UpTo n [] = Unit {0}
-UpTo n (e ∷ table) = (e.code ≤ n) × UpTo n table
+-- ---- a list of entries, each told as word and meaning: entry i, which is x, and those behind it
+module _ {A B : Type 0} (told : B → Entry A) (w : List ℕ) (xs : List B) (i : ℕ) where
+  pub told-none : length xs ≤ i → None ≡ code_of (map told (drop i xs)) w
+  unfolding code_of
+  told-none h = rw (drop_of_length-le xs h)
 
-cond-up-to : (n : ℕ) (b : Bool) (k m : ℕ) → k ≤ n → m ≤ n → cond b k m ≤ n
-cond-up-to n true k m h l = h
-cond-up-to n false k m h l = l
+  module _ (x : B) (r : Bool) (h : i < length xs) (ex : x ≡ get_or xs i x) (er : r ≡ same w (told x).word) where
+    told-here : code_of (told x ∷ map told (drop (i + 1) xs)) w ≡ code_of (map told (drop i xs)) w
+    told-here = ap (λ l. code_of (map told l) w) (sym (drop_more xs i x h ∙ ap (λ y. y ∷ drop (i + 1) xs) (sym ex)))
 
-pub code-up-to : (n other : ℕ) (table : List Entry) (w : List ℕ) → other ≤ n → UpTo n table → code_of other table w ≤ n
-unfolding code_of
-code-up-to n other [] w h t = h
-code-up-to n other (e ∷ table) w h t = cond-up-to n (same w e.word) e.code (code_of other table w) t.0 (code-up-to n other table w h t.1)
+    pub told-is : r ≡ true → Some (told x).code ≡ code_of (map told (drop i xs)) w
+    told-is e = first-is (told x) (map told (drop (i + 1) xs)) w r er e ∙ told-here
+
+    pub told-next : r ≡ false → code_of (map told (drop (i + 1) xs)) w ≡ code_of (map told (drop i xs)) w
+    told-next e = first-not (told x) (map told (drop (i + 1) xs)) w r er e ∙ told-here
+
+-- the seven train types
+pub type-number-up-to : (t : TrainType) → type_number t ≤ 6
+unfolding type_number
+type-number-up-to Trains.None = omega arith
+type-number-up-to Trains.Freight = omega arith
+type-number-up-to Trains.Passenger = omega arith
+type-number-up-to Trains.Intermodal = omega arith
+type-number-up-to Trains.HighSpeedPassenger = omega arith
+type-number-up-to Trains.TiltTrain = omega arith
+type-number-up-to Trains.Commuter = omega arith

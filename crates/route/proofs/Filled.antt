@@ -2,24 +2,19 @@
 use Prim.Native.Nat.{ℕ, suc, ◌+◌, ◌≤◌, ◌<◌}
 use native.Mathlib.Numerals.{add-one}
 use native.Mathlib.Omega.{arith}
-use mathlib.Core.Path.{◌≡◌, ap, ◌∙◌}
-use mathlib.Core.Bool.{true, false}
+use mathlib.Core.Path.{◌≡◌, sym, ap, ◌∙◌}
+use mathlib.Core.Bool.{Bool, true, false}
 use mathlib.Core.List.{List, ◌++◌}
-use borrow.Author.Tests.{eq-eqb, ne_eqb}
+use Rattle.std.proofs.Common.{◌==◌}
 use lib.ListN.{length, take, drop, set, take-append-drop, drop_of_length-le}
 use lib.Seq.{drop-cons, take-suc-set, drop-set-lt, append_snoc}
 use Rattle.route.specs.Fields.{field_bytes, no_field, whole_at, whole_or_zero}
 use Rattle.route.specs.Filled.{listed, list_length}
 
--- ---- whether a field is there, by its bytes b
-module _ (text : List ℕ) (at k : ℕ) (b : List ℕ) (e : b ≡ field_bytes text at k) where
-  pub field-missing : length b ≡ 0 → no_field text at k ≡ true
-  unfolding no_field
-  field-missing h = rw (← e) (eq-eqb (length b) 0 h)
-
-  pub field-there : (length b ≡ 0 → ⊥) → no_field text at k ≡ false
-  unfolding no_field
-  field-there h = rw (← e) (ne_eqb (length b) 0 h)
+-- whether a field is there, by its bytes b and whether they are none
+pub field-asked : (text : List ℕ) (at k : ℕ) (b : List ℕ) (r : Bool) → b ≡ field_bytes text at k → r ≡ (length b == 0) → no_field text at k ≡ r
+unfolding no_field
+field-asked text at k b r e f = rw (← e) (sym f)
 
 -- ---- the column with i numbers read, and with those still to come
 module _ (text : List ℕ) (at : ℕ) where

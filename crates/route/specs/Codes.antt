@@ -1,8 +1,17 @@
--- The words of a route file and their codes: the tables that the reader is proved against. Definitions only.
-use Rattle.std.specs.Prelude.{ℕ, zero, suc, cond, List, [], ◌∷◌, map}
+-- The words of a route file and what they mean: the tables that the reader is proved against. Definitions only.
+use Rattle.std.specs.Prelude.{ℕ, suc, cond, List, [], ◌∷◌, map, Option, Some, None}
+use Rattle.std.specs.Option.{unwrap_or}
 use Prim.Native.Char.{code}
 use Prim.Native.String.{String, [] as ending, ◌∷◌ as ◌before◌}
-use Rattle.route.specs.Text.{field_from, bytes_of}
+use Rattle.link.specs.declared.train_params.TrainType.{TrainType}
+use Rattle.link.specs.declared.train_params.TrainType.TheVariants as Trains
+use Rattle.link.specs.Train.{type_number}
+use Rattle.lookup.specs.declared.lin_search_hint.Dir.{Dir}
+use Rattle.lookup.specs.declared.lin_search_hint.Dir.TheVariants as Toward
+use Rattle.route.specs.declared.kinds.Kind.{Kind}
+use Rattle.route.specs.declared.kinds.Kind.TheVariants.{Blank, Table, Call, Unknown}
+use Rattle.route.specs.declared.kinds.TableLine.TheVariants as Of
+use Rattle.route.specs.declared.kinds.Call.TheVariants as To
 use Rattle.route.specs.Fields.{same, no_field, field_bytes}
 
 -- the bytes of an ASCII text
@@ -10,87 +19,80 @@ abbrev pub bytes : String → List ℕ
 bytes ending = []
 bytes (c before s) = code c ∷ bytes s
 
--- a word, as bytes, and its code
-pub record Entry : Type 0 where
+-- a word, as bytes, and what it means
+pub record Entry (A : Type 0) : Type 0 where
   pub word : List ℕ
-  pub code : ℕ
+  pub code : A
 
 infix 30 ◌is◌
-abbrev pub ◌is◌ : String → ℕ → Entry
-w is n = record { word = bytes w; code = n }
+abbrev pub ◌is◌ : {A : Type 0} → String → A → Entry A
+w is x = record { word = bytes w; code = x }
 
--- the code of the first entry whose word is w; `other` where there is none
-unfoldable pub code_of : ℕ → List Entry → List ℕ → ℕ
+-- what the first entry whose word is w means; nothing where there is none
+unfoldable pub code_of : {A : Type 0} → List (Entry A) → List ℕ → Option A
 unfolding same
-code_of other [] w = other
-code_of other (e ∷ table) w = cond (same w e.word) e.code (code_of other table w)
+code_of [] w = None
+code_of (e ∷ table) w = cond (same w e.word) (Some e.code) (code_of table w)
 
--- train types, in the Rust's order
-abbrev pub types : List Entry
+abbrev pub types : List (Entry TrainType)
 types =
-    ("none" is 0)
-    ∷ ("freight" is 1)
-    ∷ ("passenger" is 2)
-    ∷ ("intermodal" is 3)
-    ∷ ("high_speed_passenger" is 4)
-    ∷ ("tilt_train" is 5)
-    ∷ ("commuter" is 6)
+    ("none" is Trains.None)
+    ∷ ("freight" is Trains.Freight)
+    ∷ ("passenger" is Trains.Passenger)
+    ∷ ("intermodal" is Trains.Intermodal)
+    ∷ ("high_speed_passenger" is Trains.HighSpeedPassenger)
+    ∷ ("tilt_train" is Trains.TiltTrain)
+    ∷ ("commuter" is Trains.Commuter)
     ∷ []
 
-abbrev pub one_more : Entry → Entry
-one_more e = record { word = e.word; code = suc e.code }
+abbrev pub place_of_type : Entry TrainType → Entry ℕ
+place_of_type e = record { word = e.word; code = suc (type_number e.code) }
 
 -- the set places of a link: for all trains, and for each type
-abbrev pub places : List Entry
-places = ("all" is 0) ∷ map one_more types
+abbrev pub places : List (Entry ℕ)
+places = ("all" is 0) ∷ map place_of_type types
 
 -- whether a set's limits have a tail or end at their end
-abbrev pub tails : List Entry
+abbrev pub tails : List (Entry ℕ)
 tails = ("tail" is 0) ∷ ("head" is 1) ∷ []
 
 -- the figures that a condition compares
-abbrev pub figures : List Entry
+abbrev pub figures : List (Entry ℕ)
 figures = ("mass" is 3) ∷ ("brake" is 4) ∷ ("axles" is 5) ∷ []
 
-abbrev pub comparisons : List Entry
+abbrev pub comparisons : List (Entry ℕ)
 comparisons = ("=" is 1) ∷ (">" is 2) ∷ ("<" is 3) ∷ (">=" is 4) ∷ ("<=" is 5) ∷ []
 
-abbrev pub directions : List Entry
-directions = ("unk" is 0) ∷ ("fwd" is 1) ∷ ("bwd" is 2) ∷ []
+abbrev pub directions : List (Entry Dir)
+directions = ("unk" is Toward.Unk) ∷ ("fwd" is Toward.Fwd) ∷ ("bwd" is Toward.Bwd) ∷ []
 
 -- the first word of a line
-abbrev pub keywords : List Entry
+abbrev pub keywords : List (Entry Kind)
 keywords =
-    ("train" is 1)
-    ∷ ("link" is 2)
-    ∷ ("elev" is 3)
-    ∷ ("heading" is 4)
-    ∷ ("power" is 5)
-    ∷ ("set" is 6)
-    ∷ ("when" is 7)
-    ∷ ("limit" is 8)
-    ∷ ("new" is 9)
-    ∷ ("extend" is 10)
-    ∷ ("clear" is 11)
-    ∷ ("finish" is 12)
-    ∷ ("recalculate" is 13)
-    ∷ ("reindex" is 14)
-    ∷ ("locate" is 15)
-    ∷ ("resistance" is 16)
-    ∷ ("grades" is 17)
-    ∷ ("curves" is 18)
-    ∷ ("powers" is 19)
-    ∷ ("show" is 20)
-    ∷ ("posted" is 21)
+    ("train" is Table Of.Train)
+    ∷ ("link" is Table Of.Link)
+    ∷ ("elev" is Table Of.Elev)
+    ∷ ("heading" is Table Of.Heading)
+    ∷ ("power" is Table Of.Power)
+    ∷ ("set" is Table Of.Set)
+    ∷ ("when" is Table Of.When)
+    ∷ ("limit" is Table Of.Limit)
+    ∷ ("new" is Call To.New)
+    ∷ ("extend" is Call To.Extend)
+    ∷ ("clear" is Call To.Clear)
+    ∷ ("finish" is Call To.Finish)
+    ∷ ("recalculate" is Call To.Recalculate)
+    ∷ ("reindex" is Call To.Reindex)
+    ∷ ("locate" is Call To.Locate)
+    ∷ ("resistance" is Call To.Resistance)
+    ∷ ("grades" is Call To.Grades)
+    ∷ ("curves" is Call To.Curves)
+    ∷ ("powers" is Call To.Powers)
+    ∷ ("show" is Call To.Show)
+    ∷ ("posted" is Call To.Posted)
     ∷ []
 
--- the kind of the line at `at`: 0 where it has no field, 22 where its first is no keyword
-unfoldable pub kind_of : List ℕ → ℕ → ℕ
+-- the kind of the line at `at`: blank where it has no field, unknown where its first is no keyword
+unfoldable pub kind_of : List ℕ → ℕ → Kind
 unfolding no_field field_bytes code_of
-kind_of text at = cond (no_field text at 0) 0 (code_of 22 keywords (field_bytes text at 0))
-
--- the n fields of a text from `at` on, with the codes from `first` on
-unfoldable pub numbered : List ℕ → ℕ → ℕ → ℕ → List Entry
-unfolding field_from bytes_of
-numbered text at first zero = []
-numbered text at first (suc n) = record { word = bytes_of text (field_from text at); code = first } ∷ numbered text (field_from text at).to (suc first) n
+kind_of text at = cond (no_field text at 0) Blank (unwrap_or (code_of keywords (field_bytes text at 0)) Unknown)

@@ -1,25 +1,15 @@
 -- What the lines of a route fill: the train, and the column of a list. Definitions only.
-use Rattle.std.specs.Prelude.{ℕ, suc, cond, List, [], ◌∷◌, eqb}
+use Rattle.std.specs.Prelude.{ℕ, suc, cond, List, [], ◌∷◌}
+use Rattle.std.specs.Option.{unwrap_or}
 use Rattle.link.specs.declared.train_params.TrainType.{TrainType}
-use Rattle.link.specs.declared.train_params.TrainType.TheVariants.{None, Freight, Passenger, Intermodal, HighSpeedPassenger, TiltTrain, Commuter}
+use Rattle.link.specs.declared.train_params.TrainType.TheVariants as Trains
 use Rattle.link.specs.declared.train_params.TrainParams.{TrainParams}
 use Rattle.route.specs.Fields.{field_bytes, no_field, number_at, whole_at, or_zero, whole_or_zero}
 use Rattle.route.specs.Codes.{code_of, types}
 
--- the train type of a code; none for any other
-unfoldable pub type_of : ℕ → TrainType
-type_of code =
-    cond (eqb code 1) Freight
-    (cond (eqb code 2) Passenger
-    (cond (eqb code 3) Intermodal
-    (cond (eqb code 4) HighSpeedPassenger
-    (cond (eqb code 5) TiltTrain
-    (cond (eqb code 6) Commuter
-    None)))))
-
 -- the train of the line at `at`
 unfoldable pub train_of : List ℕ → ℕ → TrainParams
-unfolding number_at whole_at field_bytes code_of type_of
+unfolding number_at whole_at field_bytes code_of
 train_of text at =
     record {
       length = record { 0 = or_zero (number_at text at 1) };
@@ -27,7 +17,7 @@ train_of text at =
       towed_mass_static = record { 0 = or_zero (number_at text at 3) };
       mass_per_brake = record { 0 = or_zero (number_at text at 4) };
       axle_count = whole_or_zero (whole_at text at 5);
-      train_type = type_of (code_of 7 types (field_bytes text at 6));
+      train_type = unwrap_or (code_of types (field_bytes text at 6)) Trains.None;
       curve_coeff_0 = record { 0 = or_zero (number_at text at 7) };
       curve_coeff_1 = record { 0 = or_zero (number_at text at 8) };
       curve_coeff_2 = record { 0 = or_zero (number_at text at 9) };

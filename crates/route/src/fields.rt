@@ -1,11 +1,13 @@
 // Numbers and words out of the fields of a line.
-ghost use Rattle.std.specs.Prelude.{◌≡◌, ◌-◌};
+ghost use Rattle.std.specs.Prelude.{◌≡◌, map};
 ghost use Rattle.route.specs.Fields as spec;
 ghost use Rattle.route.specs.Codes as codes;
 
-use crate::text::{field, field_from, part};
+use crate::text::{field, part};
 use decimal::number::read_number;
 use decimal::whole::read_whole;
+use link::train_params::{TrainType, type_number};
+use lookup::lin_search_hint::Dir;
 
 // The bytes of field k, from 0, of the line at `at`; none where the line has no such field.
 pub fn bytes_at(text: &[u8], at: usize, k: usize) -> &[u8]
@@ -59,70 +61,72 @@ pub fn count_at(text: &[u8], at: usize, k: usize) -> u32
     whole_at(text, at, k).unwrap_or(0)
 }
 
-// The code of a word in a list of words apart by blanks, whose codes are those from `first` up to `end`; `other` for any other word.
-pub fn code_in(w: &[u8], words: &[u8], first: u32, end: u32, other: u32) -> u32
-    ensures { result ≡ codes.code_of other (codes.numbered words.now 0 first (end - first)) w.now }
+// What a word means by a table of words; none for a word that the table does not have.
+pub fn word_in<T: Copy>(w: &[u8], table: &[(&[u8], T)]) -> Option<T>
+    ensures { result ≡ codes.code_of (map (λ e. record { word = e.0.now; code = e.1 }) table.now) w.now }
 {
-    let mut at = 0;
-    let mut code = first;
-    while code < end {
-        let s = field_from(words, at);
-        if is_word(w, part(words, s)) {
-            return code;
+    for entry in table {
+        if is_word(w, entry.0) {
+            return Some(entry.1);
         }
-        at = s.to;
-        code += 1;
     }
-    other
+    None
 }
 
-// The code of a train type, 0 to 6 in the Rust's order; 7 for any other word.
-pub fn type_code(w: &[u8]) -> u32
-    ensures { result ≡ codes.code_of 7 codes.types w.now }
+const TYPES: [(&[u8], TrainType); 7] = [
+    (b"none", TrainType::None),
+    (b"freight", TrainType::Freight),
+    (b"passenger", TrainType::Passenger),
+    (b"intermodal", TrainType::Intermodal),
+    (b"high_speed_passenger", TrainType::HighSpeedPassenger),
+    (b"tilt_train", TrainType::TiltTrain),
+    (b"commuter", TrainType::Commuter),
+];
+
+// The train type of a word.
+pub fn type_of(w: &[u8]) -> Option<TrainType>
+    ensures { result ≡ codes.code_of codes.types w.now }
 {
-    code_in(
-        w,
-        b"none freight passenger intermodal high_speed_passenger tilt_train commuter",
-        0,
-        7,
-        7,
-    )
+    word_in(w, &TYPES)
 }
 
-// The place of a set: 0 for all trains, else one more than the type's code; 8 for any other word.
-pub fn place_code(w: &[u8]) -> u32
-    ensures { result ≡ codes.code_of 8 codes.places w.now }
+// The place of a set: 0 for all trains, else one more than the type's number.
+pub fn place_of(w: &[u8]) -> Option<usize>
+    ensures { result ≡ codes.code_of codes.places w.now }
 {
     if is_word(w, b"all") {
-        return 0;
+        return Some(0);
     }
-    type_code(w) + 1
+    let train_type = type_of(w)?;
+    Some(type_number(train_type) + 1)
 }
 
-// 1 for a set whose limits end at their end, 0 for one with a tail; 2 for any other word.
-pub fn head_code(w: &[u8]) -> u32
-    ensures { result ≡ codes.code_of 2 codes.tails w.now }
+// 1 for a set whose limits end at their end, 0 for one with a tail.
+pub fn head_code(w: &[u8]) -> Option<u32>
+    ensures { result ≡ codes.code_of codes.tails w.now }
 {
-    code_in(w, b"tail head", 0, 2, 2)
+    word_in(w, &[(b"tail", 0), (b"head", 1)])
 }
 
-// The code of a condition's kind, 3 to 5; 0 for any other word.
-pub fn figure_code(w: &[u8]) -> u32
-    ensures { result ≡ codes.code_of 0 codes.figures w.now }
+// The code of a condition's kind, 3 to 5.
+pub fn figure_code(w: &[u8]) -> Option<u32>
+    ensures { result ≡ codes.code_of codes.figures w.now }
 {
-    code_in(w, b"mass brake axles", 3, 6, 0)
+    word_in(w, &[(b"mass", 3), (b"brake", 4), (b"axles", 5)])
 }
 
-// The code of a comparison, 1 to 5; 0 for any other word.
-pub fn comparison_code(w: &[u8]) -> u32
-    ensures { result ≡ codes.code_of 0 codes.comparisons w.now }
+const COMPARISONS: [(&[u8], u32); 5] = [(b"=", 1), (b">", 2), (b"<", 3), (b">=", 4), (b"<=", 5)];
+
+// The code of a comparison, 1 to 5.
+pub fn comparison_code(w: &[u8]) -> Option<u32>
+    ensures { result ≡ codes.code_of codes.comparisons w.now }
 {
-    code_in(w, b"= > < >= <=", 1, 6, 0)
+    word_in(w, &COMPARISONS)
 }
 
-// The code of a direction: 0 unk, 1 fwd, 2 bwd; 3 for any other word.
-pub fn direction_code(w: &[u8]) -> u32
-    ensures { result ≡ codes.code_of 3 codes.directions w.now }
+// A direction.
+pub fn direction_of(w: &[u8]) -> Option<Dir>
+    ensures { result ≡ codes.code_of codes.directions w.now }
 {
-    code_in(w, b"unk fwd bwd", 0, 3, 3)
+    word_in(w, &[(b"unk", Dir::Unk), (b"fwd", Dir::Fwd), (b"bwd", Dir::Bwd)])
 }

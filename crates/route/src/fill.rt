@@ -3,9 +3,9 @@ ghost use Rattle.std.specs.Prelude.{◌≤◌, ◌≡◌, length};
 ghost use Rattle.route.specs.Filled as spec;
 
 use crate::fields::{
-    bytes_at, comparison_code, count_at, figure_code, float_at, head_code, place_code, type_code,
+    bytes_at, comparison_code, count_at, figure_code, float_at, head_code, place_of, type_of,
 };
-use crate::kinds::{ELEV, HEADING, LIMIT, LINK, POWER, SET, WHEN, kind_of};
+use crate::kinds::{Kind, TableLine, kind_of};
 use crate::text::next_line;
 use column::{Three, Two};
 use link::train_params::{TrainParams, TrainType};
@@ -93,7 +93,7 @@ fn put_link(text: &[u8], at: usize, h: Here, links: &mut [u32]) {
 fn put_set(text: &[u8], at: usize, h: Here, sets: &mut [u32]) {
     let k = set_entry(h.link, h.place);
     column::set(&mut *sets, k, 1);
-    column::set(&mut *sets, k + 1, head_code(bytes_at(text, at, 2)));
+    column::set(&mut *sets, k + 1, head_code(bytes_at(text, at, 2)).unwrap_or(0));
     column::set(&mut *sets, k + 2, h.conditions);
     column::set(&mut *sets, k + 4, h.limits);
 }
@@ -102,28 +102,25 @@ fn put_set(text: &[u8], at: usize, h: Here, sets: &mut [u32]) {
 fn put_in_links(
     text: &[u8],
     at: usize,
-    kind: u32,
+    line: TableLine,
     h: Here,
     links: &mut [u32],
     lengths: &mut [f64],
     sets: &mut [u32],
 ) {
-    if kind == LINK {
-        put_link(text, at, h, &mut *links);
-        put_firsts(h, &mut *links);
-        column::set(&mut *lengths, h.link, float_at(text, at, 2));
-    } else if kind == ELEV {
-        bump(&mut *links, link_entry(h.link) + 6);
-    } else if kind == HEADING {
-        bump(&mut *links, link_entry(h.link) + 8);
-    } else if kind == POWER {
-        bump(&mut *links, link_entry(h.link) + 10);
-    } else if kind == SET {
-        put_set(text, at, h, &mut *sets);
-    } else if kind == WHEN {
-        bump(&mut *sets, set_entry(h.link, h.place) + 3);
-    } else if kind == LIMIT {
-        bump(&mut *sets, set_entry(h.link, h.place) + 5);
+    match line {
+        TableLine::Train => {}
+        TableLine::Link => {
+            put_link(text, at, h, &mut *links);
+            put_firsts(h, &mut *links);
+            column::set(&mut *lengths, h.link, float_at(text, at, 2));
+        }
+        TableLine::Elev => bump(&mut *links, link_entry(h.link) + 6),
+        TableLine::Heading => bump(&mut *links, link_entry(h.link) + 8),
+        TableLine::Power => bump(&mut *links, link_entry(h.link) + 10),
+        TableLine::Set => put_set(text, at, h, &mut *sets),
+        TableLine::When => bump(&mut *sets, set_entry(h.link, h.place) + 3),
+        TableLine::Limit => bump(&mut *sets, set_entry(h.link, h.place) + 5),
     }
 }
 
@@ -143,7 +140,7 @@ fn triple_at(text: &[u8], at: usize) -> Three {
 fn put_in_pools(
     text: &[u8],
     at: usize,
-    kind: u32,
+    line: TableLine,
     h: Here,
     elevs: &mut [f64],
     headings: &mut [f64],
@@ -153,57 +150,54 @@ fn put_in_pools(
     link_powers: &mut [f64],
     link_districts: &mut [u32],
 ) {
-    if kind == ELEV {
-        column::put_record(&mut *elevs, h.elevs as usize, pair_at(text, at));
-    } else if kind == HEADING {
-        column::put_record(&mut *headings, h.headings as usize, pair_at(text, at));
-    } else if kind == LIMIT {
-        column::put_record(&mut *limits, h.limits as usize, triple_at(text, at));
-    } else if kind == WHEN {
-        let k = h.conditions as usize;
-        column::set(&mut *codes, 2 * k, figure_code(bytes_at(text, at, 1)));
-        column::set(
-            &mut *codes,
-            2 * k + 1,
-            comparison_code(bytes_at(text, at, 2)),
-        );
-        column::set(&mut *values, k, float_at(text, at, 3));
-    } else if kind == POWER {
-        let k = h.powers as usize;
-        column::put_record(&mut *link_powers, k, triple_at(text, at));
-        column::set(&mut *link_districts, k, count_at(text, at, 4));
+    match line {
+        TableLine::Train | TableLine::Link | TableLine::Set => {}
+        TableLine::Elev => {
+            column::put_record(&mut *elevs, h.elevs as usize, pair_at(text, at));
+        }
+        TableLine::Heading => {
+            column::put_record(&mut *headings, h.headings as usize, pair_at(text, at));
+        }
+        TableLine::Limit => {
+            column::put_record(&mut *limits, h.limits as usize, triple_at(text, at));
+        }
+        TableLine::When => {
+            let k = h.conditions as usize;
+            let figure = figure_code(bytes_at(text, at, 1)).unwrap_or(0);
+            let comparison = comparison_code(bytes_at(text, at, 2)).unwrap_or(0);
+            column::set(&mut *codes, 2 * k, figure);
+            column::set(&mut *codes, 2 * k + 1, comparison);
+            column::set(&mut *values, k, float_at(text, at, 3));
+        }
+        TableLine::Power => {
+            let k = h.powers as usize;
+            column::put_record(&mut *link_powers, k, triple_at(text, at));
+            column::set(&mut *link_districts, k, count_at(text, at, 4));
+        }
     }
 }
 
 // Where the records of a line go: its own link or set for a line that begins one.
-fn arrive(text: &[u8], at: usize, kind: u32, h: Here) -> Here {
+fn arrive(text: &[u8], at: usize, line: TableLine, h: Here) -> Here {
     let mut r = h;
-    if kind == LINK {
-        r.link = count_at(text, at, 1) as usize;
-    }
-    if kind == SET {
-        r.place = place_code(bytes_at(text, at, 1)) as usize;
+    match line {
+        TableLine::Link => r.link = count_at(text, at, 1) as usize,
+        TableLine::Set => r.place = place_of(bytes_at(text, at, 1)).unwrap_or(8),
+        _ => {}
     }
     r
 }
 
 // The same behind the line.
-fn leave(kind: u32, h: Here) -> Here {
+fn leave(line: TableLine, h: Here) -> Here {
     let mut r = h;
-    if kind == ELEV {
-        r.elevs = more(h.elevs);
-    }
-    if kind == HEADING {
-        r.headings = more(h.headings);
-    }
-    if kind == POWER {
-        r.powers = more(h.powers);
-    }
-    if kind == WHEN {
-        r.conditions = more(h.conditions);
-    }
-    if kind == LIMIT {
-        r.limits = more(h.limits);
+    match line {
+        TableLine::Train | TableLine::Link | TableLine::Set => {}
+        TableLine::Elev => r.elevs = more(h.elevs),
+        TableLine::Heading => r.headings = more(h.headings),
+        TableLine::Power => r.powers = more(h.powers),
+        TableLine::When => r.conditions = more(h.conditions),
+        TableLine::Limit => r.limits = more(h.limits),
     }
     r
 }
@@ -225,23 +219,24 @@ pub fn fill_table(
     let mut h = nowhere();
     let mut at = 0;
     while at < text.len() {
-        let kind = kind_of(text, at);
-        h = arrive(text, at, kind, h);
-        put_in_links(text, at, kind, h, &mut *links, &mut *lengths, &mut *sets);
-        put_in_pools(
-            text,
-            at,
-            kind,
-            h,
-            &mut *elevs,
-            &mut *headings,
-            &mut *limits,
-            &mut *codes,
-            &mut *values,
-            &mut *link_powers,
-            &mut *link_districts,
-        );
-        h = leave(kind, h);
+        if let Kind::Table(line) = kind_of(text, at) {
+            h = arrive(text, at, line, h);
+            put_in_links(text, at, line, h, &mut *links, &mut *lengths, &mut *sets);
+            put_in_pools(
+                text,
+                at,
+                line,
+                h,
+                &mut *elevs,
+                &mut *headings,
+                &mut *limits,
+                &mut *codes,
+                &mut *values,
+                &mut *link_powers,
+                &mut *link_districts,
+            );
+            h = leave(line, h);
+        }
         at = next_line(text, at);
     }
 }
@@ -252,29 +247,13 @@ pub fn fill_list(text: &[u8], at: usize, col: &mut [u32]) -> usize
     ensures value { result ≡ spec.list_length text.now at 0 col.old }
     ensures upper_bound { result ≤ length col.new }
 {
-    let mut i = 0;
-    while i < col.len() {
-        if bytes_at(text, at, i + 1).len() == 0 {
+    for i in 0..col.len() {
+        if bytes_at(text, at, i + 1).is_empty() {
             return i;
         }
         col[i] = count_at(text, at, i + 1);
-        i += 1;
     }
-    i
-}
-
-fn type_of(code: u32) -> TrainType
-    ensures { result ≡ spec.type_of code }
-{
-    match code {
-        1 => TrainType::Freight,
-        2 => TrainType::Passenger,
-        3 => TrainType::Intermodal,
-        4 => TrainType::HighSpeedPassenger,
-        5 => TrainType::TiltTrain,
-        6 => TrainType::Commuter,
-        _ => TrainType::None,
-    }
+    col.len()
 }
 
 // The train of the line at `at`.
@@ -287,7 +266,7 @@ pub fn train_of(text: &[u8], at: usize) -> TrainParams
         towed_mass_static: Mass(float_at(text, at, 3)),
         mass_per_brake: Mass(float_at(text, at, 4)),
         axle_count: count_at(text, at, 5),
-        train_type: type_of(type_code(bytes_at(text, at, 6))),
+        train_type: type_of(bytes_at(text, at, 6)).unwrap_or(TrainType::None),
         curve_coeff_0: Ratio(float_at(text, at, 7)),
         curve_coeff_1: Ratio(float_at(text, at, 8)),
         curve_coeff_2: Ratio(float_at(text, at, 9)),

@@ -2,67 +2,78 @@
 ghost use Rattle.std.specs.Prelude.{◌≡◌};
 ghost use Rattle.route.specs.Codes as spec;
 
-use crate::fields::{bytes_at, code_in};
+use crate::fields::{bytes_at, word_in};
 
-pub const BLANK: u32 = 0;
+// A line of the train or of the link table.
+#[derive(Clone, Copy, PartialEq, Eq, Debug)]
+pub enum TableLine {
+    Train,
+    Link,
+    Elev,
+    Heading,
+    Power,
+    Set,
+    When,
+    Limit,
+}
 
-pub const TRAIN: u32 = 1;
+// A line that calls the planner.
+#[derive(Clone, Copy, PartialEq, Eq, Debug)]
+pub enum Call {
+    New,
+    Extend,
+    Clear,
+    Finish,
+    Recalculate,
+    Reindex,
+    Locate,
+    Resistance,
+    Grades,
+    Curves,
+    Powers,
+    Show,
+    Posted,
+}
 
-pub const LINK: u32 = 2;
+#[derive(Clone, Copy, PartialEq, Eq, Debug)]
+pub enum Kind {
+    Blank,
+    Table(TableLine),
+    Call(Call),
+    Unknown,
+}
 
-pub const ELEV: u32 = 3;
-
-pub const HEADING: u32 = 4;
-
-pub const POWER: u32 = 5;
-
-pub const SET: u32 = 6;
-
-pub const WHEN: u32 = 7;
-
-pub const LIMIT: u32 = 8;
-
-pub const NEW: u32 = 9;
-
-pub const EXTEND: u32 = 10;
-
-pub const CLEAR: u32 = 11;
-
-pub const FINISH: u32 = 12;
-
-pub const RECALCULATE: u32 = 13;
-
-pub const REINDEX: u32 = 14;
-
-pub const LOCATE: u32 = 15;
-
-pub const RESISTANCE: u32 = 16;
-
-pub const GRADES: u32 = 17;
-
-pub const CURVES: u32 = 18;
-
-pub const POWERS: u32 = 19;
-
-pub const SHOW: u32 = 20;
-
-pub const POSTED: u32 = 21;
-
-pub const UNKNOWN: u32 = 22;
+const KEYWORDS: [(&[u8], Kind); 21] = [
+    (b"train", Kind::Table(TableLine::Train)),
+    (b"link", Kind::Table(TableLine::Link)),
+    (b"elev", Kind::Table(TableLine::Elev)),
+    (b"heading", Kind::Table(TableLine::Heading)),
+    (b"power", Kind::Table(TableLine::Power)),
+    (b"set", Kind::Table(TableLine::Set)),
+    (b"when", Kind::Table(TableLine::When)),
+    (b"limit", Kind::Table(TableLine::Limit)),
+    (b"new", Kind::Call(Call::New)),
+    (b"extend", Kind::Call(Call::Extend)),
+    (b"clear", Kind::Call(Call::Clear)),
+    (b"finish", Kind::Call(Call::Finish)),
+    (b"recalculate", Kind::Call(Call::Recalculate)),
+    (b"reindex", Kind::Call(Call::Reindex)),
+    (b"locate", Kind::Call(Call::Locate)),
+    (b"resistance", Kind::Call(Call::Resistance)),
+    (b"grades", Kind::Call(Call::Grades)),
+    (b"curves", Kind::Call(Call::Curves)),
+    (b"powers", Kind::Call(Call::Powers)),
+    (b"show", Kind::Call(Call::Show)),
+    (b"posted", Kind::Call(Call::Posted)),
+];
 
 // The kind of the line at `at`.
-pub fn kind_of(text: &[u8], at: usize) -> u32
+pub fn kind_of(text: &[u8], at: usize) -> Kind
     ensures { result ≡ spec.kind_of text.now at }
 {
     let w = bytes_at(text, at, 0);
-    if w.len() == 0 {
-        return BLANK;
+    if w.is_empty() {
+        return Kind::Blank;
     }
-    code_in(
-        w,
-        b"train link elev heading power set when limit new extend clear finish recalculate reindex locate resistance grades curves powers show posted",
-        TRAIN,
-        UNKNOWN,
-        UNKNOWN,
-    )
+    word_in(w, &KEYWORDS).unwrap_or(Kind::Unknown)
 }

@@ -7,8 +7,4 @@ use Rattle.route.proofs.Filled.{whole, count}
 use Rattle.route.proofs.fill.fill_list.Given as goal
 
 abbrev pub invariant-loop-i : goal.invariant-loop-i
-invariant-loop-i l =
-    (whole l.text l.at l.col l.i ≡ listed l.text l.at 0 l.initial.col) × (count l.text l.at l.col l.i ≡ list_length l.text l.at 0 l.initial.col) × (length l.col ≡ length l.initial.col) × (l.i ≤ length l.col)
-
-abbrev pub decreases-loop-i : goal.decreases-loop-i
-decreases-loop-i l = length l.col - l.i
+invariant-loop-i l = (whole l.text l.at l.col l.i ≡ listed l.text l.at 0 l.initial.col) × (count l.text l.at l.col l.i ≡ list_length l.text l.at 0 l.initial.col)

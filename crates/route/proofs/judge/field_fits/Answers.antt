@@ -1,43 +1,35 @@
--- `field_fits`: the letters one by one.
-use native.Mathlib.Omega.{arith}
-use borrow.Author.Tests.{ne_eqb}
+-- `field_fits`: what is wanted, one by one.
 use Rattle.route.specs.Forms.{field_fits}
 use Rattle.route.proofs.judge.field_fits.Goals as goal
 
-pub returns-in-110 : goal.returns-in-110
+pub returns-in-Number : goal.returns-in-Number
 unfolding field_fits
-returns-in-110 c = rw c.in-110.is c.is_number.ensures
+returns-in-Number c = rw c.in-Number.is c.is_number.ensures
 
-pub returns-in-119 : goal.returns-in-119
+pub returns-in-Whole : goal.returns-in-Whole
 unfolding field_fits
-returns-in-119 c = rw c.in-119.is c.is_whole.ensures
+returns-in-Whole c = rw c.in-Whole.is c.is_whole.ensures
 
-pub returns-in-116 : goal.returns-in-116
+pub returns-in-TrainType : goal.returns-in-TrainType
 unfolding field_fits
-returns-in-116 c = rw (c.in-116.is, c.type_code.ensures, c.bytes_at.ensures)
+returns-in-TrainType c = rw (c.in-TrainType.is, c.is_some.ensures, c.type_of.ensures, c.bytes_at-w.ensures)
 
-pub returns-in-112 : goal.returns-in-112
+pub returns-in-SetPlace : goal.returns-in-SetPlace
 unfolding field_fits
-returns-in-112 c = rw (c.in-112.is, c.place_code.ensures, c.bytes_at-in-112.ensures)
+returns-in-SetPlace c = rw (c.in-SetPlace.is, c.is_some-in-SetPlace.ensures, c.place_of.ensures, c.bytes_at-w.ensures)
 
-pub returns-in-104 : goal.returns-in-104
+pub returns-in-Tail : goal.returns-in-Tail
 unfolding field_fits
-returns-in-104 c = rw (c.in-104.is, c.head_code.ensures, c.bytes_at-in-104.ensures)
+returns-in-Tail c = rw (c.in-Tail.is, c.is_some-in-Tail.ensures, c.head_code.ensures, c.bytes_at-w.ensures)
 
-pub returns-in-102 : goal.returns-in-102
+pub returns-in-Figure : goal.returns-in-Figure
 unfolding field_fits
-returns-in-102 c = rw (c.in-102.is, c.figure_code.ensures, c.bytes_at-in-102.ensures)
+returns-in-Figure c = rw (c.in-Figure.is, c.is_some-in-Figure.ensures, c.figure_code.ensures, c.bytes_at-w.ensures)
 
-pub returns-in-99 : goal.returns-in-99
+pub returns-in-Comparison : goal.returns-in-Comparison
 unfolding field_fits
-returns-in-99 c = rw (c.in-99.is, c.comparison_code.ensures, c.bytes_at-in-99.ensures)
+returns-in-Comparison c = rw (c.in-Comparison.is, c.is_some-in-Comparison.ensures, c.comparison_code.ensures, c.bytes_at-w.ensures)
 
-pub returns-in-100 : goal.returns-in-100
+pub returns-in-Direction : goal.returns-in-Direction
 unfolding field_fits
-returns-in-100 c = rw (c.in-100.is, c.direction_code.ensures, c.bytes_at-in-100.ensures)
-
-pub returns-in_default : goal.returns-in_default
-unfolding field_fits
-returns-in_default c =
-    let asks = c.args.asks in
-    rw (ne_eqb asks 110 (omega arith), ne_eqb asks 119 (omega arith), ne_eqb asks 116 (omega arith), ne_eqb asks 112 (omega arith), ne_eqb asks 104 (omega arith), ne_eqb asks 102 (omega arith), ne_eqb asks 99 (omega arith), ne_eqb asks 100 (omega arith))
+returns-in-Direction c = rw (c.in-Direction.is, c.is_some-in-Direction.ensures, c.direction_of.ensures, c.bytes_at-w.ensures)

@@ -1,14 +1,15 @@
--- `kind_of`: the list of words, numbered, is the table of keywords.
-use lib.ListN.{length}
-use borrow.Author.Tests.{eq-eqb, ne_eqb}
-use Rattle.route.specs.Text.{is_blank, in_field}
-use Rattle.route.specs.Codes.{numbered, kind_of}
+-- `kind_of`: the first field looked up among the keywords.
+use Rattle.std.proofs.Common.{◌∙◌}
+use Rattle.route.specs.Codes.{kind_of}
+use Rattle.route.proofs.Filled.{field-asked}
 use Rattle.route.proofs.kinds.kind_of.Goals as goal
 
-pub returns-then-w-eq0 : goal.returns-then-w-eq0
+pub returns-then-is_empty : goal.returns-then-is_empty
 unfolding kind_of
-returns-then-w-eq0 c = rw (← c.bytes_at-w.ensures, eq-eqb (length c.bytes_at-w.result.now) 0 c.if-w-eq0.true)
+returns-then-is_empty c =
+    rw (field-asked c.args.text.now c.args.at 0 c.bytes_at-w.result.now c.is_empty.result c.bytes_at-w.ensures c.is_empty.ensures, c.if-is_empty.true)
 
 pub returns : goal.returns
-unfolding kind_of numbered is_blank in_field
-returns c = rw (← c.bytes_at-w.ensures, ne_eqb (length c.bytes_at-w.result.now) 0 c.if-w-eq0.false) c.code_in.ensures
+unfolding kind_of
+returns c =
+    rw (field-asked c.args.text.now c.args.at 0 c.bytes_at-w.result.now c.is_empty.result c.bytes_at-w.ensures c.is_empty.ensures, c.if-is_empty.false, c.unwrap_or.ensures, c.word_in.ensures, c.bytes_at-w.ensures)
