@@ -1,8 +1,9 @@
 // A field that cannot be read: quoted, with its column and the reason.
 use decimal::fault::{Fault, WholeFault, number_fault, whole_fault};
 use route::fields::bytes_at;
+use route::judge::LIST;
 use route::text::field;
-use route::wanted::asked;
+use route::wanted::Wanted;
 use show::{put, put_count};
 
 // A byte as it may be shown: no control codes.
@@ -16,14 +17,11 @@ fn shown(b: u8) -> u8 {
 // At most 40 bytes of a text between quotes.
 fn quoted(out: i32, text: &[u8]) {
     put(out, b"\"");
-    let mut i = 0;
-    while i < text.len() {
-        if i == 40 {
-            put(out, b"..");
-            break;
-        }
-        put(out, &[shown(text[i])]);
-        i += 1;
+    for b in text.iter().take(40) {
+        put(out, &[shown(*b)]);
+    }
+    if 40 < text.len() {
+        put(out, b"..");
     }
     put(out, b"\"");
 }
@@ -70,35 +68,25 @@ fn whole_reason(out: i32, w: &[u8]) {
     }
 }
 
-// What a word should be.
-fn word_reason(out: i32, asks: u8) {
-    match asks {
-        b't' => put(out, b" is no train type"),
-        b'p' => put(out, b" is neither all nor a train type"),
-        b'h' => put(out, b" is neither tail nor head"),
-        b'f' => put(out, b" is neither mass nor brake nor axles"),
-        b'c' => put(out, b" is no comparison"),
-        b'd' => put(out, b" is neither unk nor fwd nor bwd"),
-        _ => put(out, b" is one field too many"),
-    }
-}
-
-// Why field k of a line of this kind cannot be read.
-pub fn unreadable(out: i32, text: &[u8], at: usize, kind: u32, k: usize) {
+// Why field k cannot be read, which is to be as `asks` says, or not to be at all.
+pub fn unreadable(out: i32, text: &[u8], at: usize, asks: Option<Wanted>, k: usize) {
     let w = bytes_at(text, at, k);
-    if w.len() == 0 {
+    if w.is_empty() {
         put(out, b": field ");
         put_count(out, k);
         put(out, b" is missing");
         return;
     }
     quoted_at(out, text, at, k);
-    let asks = asked(kind, k);
-    if asks == b'n' {
-        number_reason(out, w);
-    } else if (asks == b'w') & (k <= 1025) {
-        whole_reason(out, w);
-    } else {
-        word_reason(out, asks);
+    match asks {
+        Some(Wanted::Number) => number_reason(out, w),
+        Some(Wanted::Whole) if k <= LIST => whole_reason(out, w),
+        Some(Wanted::TrainType) => put(out, b" is no train type"),
+        Some(Wanted::SetPlace) => put(out, b" is neither all nor a train type"),
+        Some(Wanted::Tail) => put(out, b" is neither tail nor head"),
+        Some(Wanted::Figure) => put(out, b" is neither mass nor brake nor axles"),
+        Some(Wanted::Comparison) => put(out, b" is no comparison"),
+        Some(Wanted::Direction) => put(out, b" is neither unk nor fwd nor bwd"),
+        Some(Wanted::Whole) | None => put(out, b" is one field too many"),
     }
 }

@@ -1,6 +1,6 @@
 // Lines and links of a file, by their numbers.
 use link::train_params::TrainType;
-use route::kinds::{LINK, kind_of};
+use route::kinds::{Kind, TableLine, kind_of};
 use route::text::next_line;
 use show::{put, put_count};
 
@@ -33,7 +33,7 @@ pub fn line_of_link(text: &[u8], n: usize) -> usize {
     let mut links = 0;
     while at < text.len() {
         line = next(line);
-        if kind_of(text, at) == LINK {
+        if kind_of(text, at) == Kind::Table(TableLine::Link) {
             links = next(links);
             if links == n {
                 return line;

@@ -9,17 +9,17 @@ use answer::Answer;
 use link::network::link_numbers;
 use link::train_params::{TrainParams, TrainType};
 use path::path_tpc::PathTpc;
-use route::kinds::{CLEAR, CURVES, EXTEND, GRADES, REINDEX};
+use route::kinds::Call;
 use show::{put, put_count, put_real};
 
 // The file, the line, the call, and number and place of its refusal.
-fn opening(err: i32, name: &[u8], line: usize, kind: u32, a: Answer) {
+fn opening(err: i32, name: &[u8], line: usize, call: Call, a: Answer) {
     put(err, b"plan: ");
     put(err, name);
     put(err, b", line ");
     put_count(err, line);
     put(err, b": ");
-    call_name(err, kind);
+    call_name(err, call);
     put(err, b" ");
     refused_by(err, a);
 }
@@ -51,8 +51,8 @@ fn train_wrong(err: i32, train: TrainParams) {
 }
 
 // Question 1 of a call on the path: its offset, or the train.
-fn number_wrong(err: i32, kind: u32, x: f64, train: TrainParams) {
-    if (kind == CLEAR) | (REINDEX < kind) {
+fn number_wrong(err: i32, call: Call, x: f64, train: TrainParams) {
+    if (call == Call::Clear) | call.is_reading() {
         if !ieee::is_finite(x) {
             put(err, b"the offset is not a finite number");
         } else {
@@ -87,8 +87,8 @@ fn of_any(err: i32, number: u32, p: PathTpc, n: usize) {
 }
 
 // Question 4 of a link number.
-fn absent(err: i32, kind: u32, n: u32) {
-    if kind == REINDEX {
+fn absent(err: i32, call: Call, n: u32) {
+    if call == Call::Reindex {
         put(err, b"there is no new number for link ");
         put_count(err, n as usize);
         put(err, b", or it is 0");
@@ -167,8 +167,8 @@ fn of_link(err: i32, number: u32, kind: TrainType) {
 }
 
 // The link that place k names: of the list, or of a link point.
-fn link_at(kind: u32, list: &[u32], numbers: &[u32], k: usize) -> u32 {
-    if kind == EXTEND {
+fn link_at(call: Call, list: &[u32], numbers: &[u32], k: usize) -> u32 {
+    if call == Call::Extend {
         return column::get(list, k);
     }
     column::record_at::<column::Four>(numbers, k).3
@@ -189,7 +189,7 @@ fn link_before(list: &[u32], numbers: &[u32], p: PathTpc, k: usize) -> u32 {
 fn link_wrong(
     err: i32,
     text: &[u8],
-    kind: u32,
+    call: Call,
     a: Answer,
     list: &[u32],
     p: PathTpc,
@@ -206,9 +206,9 @@ fn link_wrong(
     powers: &[f64],
     districts: &[u32],
 ) {
-    let n = link_at(kind, list, numbers, a.place);
+    let n = link_at(call, list, numbers, a.place);
     if a.number == 4 {
-        absent(err, kind, n);
+        absent(err, call, n);
         return;
     }
     if a.number == 5 {
@@ -233,7 +233,7 @@ pub fn change_refused(
     name: &[u8],
     text: &[u8],
     line: usize,
-    kind: u32,
+    call: Call,
     a: Answer,
     x: f64,
     list: &[u32],
@@ -252,27 +252,27 @@ pub fn change_refused(
     powers: &[f64],
     districts: &[u32],
 ) {
-    opening(err, name, line, kind, a);
+    opening(err, name, line, call, a);
     if (4 <= a.number) & (a.number <= 8) {
         link_wrong(
-            err, text, kind, a, list, p, train, numbers, links, lengths, sets, elevs, headings,
+            err, text, call, a, list, p, train, numbers, links, lengths, sets, elevs, headings,
             limits, codes, values, powers, districts,
         );
     } else if a.number == 1 {
-        number_wrong(err, kind, x, train);
+        number_wrong(err, call, x, train);
     } else if a.number == 10 {
         reach(err, p, offsets);
     } else if p.link_count < 100000 {
-        of_any(err, a.number, p, p.link_count + joined(kind, list));
+        of_any(err, a.number, p, p.link_count + joined(call, list));
     }
     put(err, b"\n");
 }
 
 // How many link points a call would join.
-fn joined(kind: u32, list: &[u32]) -> usize
+fn joined(call: Call, list: &[u32]) -> usize
     ensures { result ≤ 100000 }
 {
-    if kind == EXTEND {
+    if call == Call::Extend {
         if list.len() < 100000 {
             return list.len();
         }
@@ -285,13 +285,13 @@ pub fn reading_refused(
     err: i32,
     name: &[u8],
     line: usize,
-    kind: u32,
+    call: Call,
     a: Answer,
     x: f64,
     p: PathTpc,
     offsets: &[f64],
 ) {
-    opening(err, name, line, kind, a);
+    opening(err, name, line, call, a);
     if a.number == 1 {
         if !ieee::is_finite(x) {
             put(err, b"the offset is not a finite number");
@@ -299,7 +299,7 @@ pub fn reading_refused(
             refusal(err, 1);
         }
     } else if a.number == 10 {
-        if (kind == GRADES) | (kind == CURVES) {
+        if matches!(call, Call::Grades | Call::Curves) {
             put(err, b"link points of the path: ");
             put_count(err, p.link_count);
             put(err, b", the last one its end");

@@ -1,7 +1,7 @@
 // What the original Rust posts behind a drop, beside what is posted here: its own run of the same calls is followed in a column of its speed points.
 use crate::columns::Original;
 use original::run::{begin, drop_before, lay, posted_by_original};
-use route::kinds::{CLEAR, EXTEND, NEW, RECALCULATE};
+use route::kinds::Call;
 use show::{put, put_count, put_real};
 use si::{Length, Velocity};
 use speed::laid::Laid;
@@ -43,7 +43,7 @@ fn with_points(points: usize, state: u32) -> Course {
 // Behind a call that is done: x is the path's beginning, `laid` are the limits that it laid, `links` says whether links were dropped, `fits` whether all
 // limits have a record.
 pub fn course_behind(
-    kind: u32,
+    kind: Call,
     c: Course,
     x: Length,
     top: Velocity,
@@ -52,7 +52,7 @@ pub fn course_behind(
     fits: bool,
     points: &mut Original,
 ) -> Course {
-    if kind == NEW {
+    if kind == Call::New {
         return with_points(begin(&mut *points, x, top), NOT_FOLLOWED);
     }
     if c.state == STOPPED {
@@ -64,16 +64,16 @@ pub fn course_behind(
     if c.state != GOES_ON {
         return c;
     }
-    if (kind == CLEAR) & links {
+    if (kind == Call::Clear) & links {
         return with_points(drop_before(&mut *points, c.points, x), STOPPED);
     }
-    if (kind != EXTEND) & (kind != RECALCULATE) {
+    if (kind != Call::Extend) & (kind != Call::Recalculate) {
         return c;
     }
     if !fits {
         return no_course();
     }
-    let n = if kind == RECALCULATE {
+    let n = if kind == Call::Recalculate {
         begin(&mut *points, x, top)
     } else {
         c.points

@@ -4,7 +4,7 @@ use answer::Answer;
 use link::train_params::TrainParams;
 use path::path_tpc::{PathAnswer, PathTpc};
 use route::fill::fill_list;
-use route::kinds::{CLEAR, EXTEND, FINISH, NEW, RECALCULATE};
+use route::kinds::Call;
 use si::Length;
 
 // What a call leaves: its answer, the path's record, and the counts of the links that went.
@@ -74,7 +74,7 @@ fn clear(
 
 // The calls that need no table.
 fn plain_change(
-    kind: u32,
+    kind: Call,
     train: TrainParams,
     x: Length,
     list: &[u32],
@@ -87,7 +87,7 @@ fn plain_change(
     powers: &mut Powers,
     districts: &mut Districts,
 ) -> Step {
-    if kind == NEW {
+    if kind == Call::New {
         return step_of(path_ends::new::new(
             train,
             &mut *offsets,
@@ -99,7 +99,7 @@ fn plain_change(
             &mut *districts,
         ));
     }
-    if kind == CLEAR {
+    if kind == Call::Clear {
         return clear(
             x,
             p,
@@ -112,7 +112,7 @@ fn plain_change(
             &mut *districts,
         );
     }
-    if kind == FINISH {
+    if kind == Call::Finish {
         return step_of(path_ends::finish::finish(
             p,
             &mut *offsets,
@@ -139,7 +139,7 @@ fn plain_change(
 
 // A call of this kind, with the offset or the list that it is given.
 pub fn change(
-    kind: u32,
+    kind: Call,
     train: TrainParams,
     x: Length,
     list: &[u32],
@@ -162,7 +162,7 @@ pub fn change(
     link_powers: &[f64],
     link_districts: &[u32],
 ) -> Step {
-    if kind == EXTEND {
+    if kind == Call::Extend {
         return step_of(path_extend::extend::extend(
             p,
             train,
@@ -186,7 +186,7 @@ pub fn change(
             link_districts,
         ));
     }
-    if kind == RECALCULATE {
+    if kind == Call::Recalculate {
         return step_of(path_speeds::recalc_speeds::recalc_speeds(
             p,
             train,

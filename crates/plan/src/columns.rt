@@ -4,7 +4,7 @@ ghost use Rattle.std.specs.Prelude.{◌≤◌};
 use crate::progress::Clock;
 use crate::session::{Counts, run};
 use route::fill::fill_table;
-use route::judge::Seen;
+use route::judge::Judged;
 use show::To;
 use speed::laid::Laid;
 use view::profile::{Border, Height};
@@ -61,7 +61,7 @@ fn with_path<R: std::rt::Clock>(
     clock: Clock,
     name: &[u8],
     text: &[u8],
-    seen: Seen,
+    judged: Judged,
     links: &[u32],
     lengths: &[f64],
     sets: &[u32],
@@ -90,7 +90,7 @@ fn with_path<R: std::rt::Clock>(
         clock,
         name,
         text,
-        seen,
+        judged,
         &mut offsets,
         &mut numbers,
         &mut grades,
@@ -122,7 +122,7 @@ fn with_links<R: std::rt::Clock>(
     clock: Clock,
     name: &[u8],
     text: &[u8],
-    seen: Seen,
+    judged: Judged,
     links: &mut [u32; 11275],
     lengths: &mut [f64; 1025],
     sets: &mut [u32; 49200],
@@ -147,14 +147,14 @@ fn with_links<R: std::rt::Clock>(
         &mut *link_powers,
         &mut *link_districts,
     );
-    let n = last_link(seen.links);
+    let n = last_link(judged.links);
     with_path(
         sys,
         to,
         clock,
         name,
         text,
-        seen,
+        judged,
         cut(&*links, 11 * n + 11),
         cut(&*lengths, n + 1),
         cut(&*sets, 48 * n + 48),
@@ -175,7 +175,7 @@ pub fn with_table<R: std::rt::Clock>(
     clock: Clock,
     name: &[u8],
     text: &[u8],
-    seen: Seen,
+    judged: Judged,
 ) -> Counts {
     let mut links = [0u32; 11275];
     let mut lengths = [0.0f64; 1025];
@@ -193,7 +193,7 @@ pub fn with_table<R: std::rt::Clock>(
         clock,
         name,
         text,
-        seen,
+        judged,
         &mut links,
         &mut lengths,
         &mut sets,

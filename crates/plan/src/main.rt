@@ -10,7 +10,7 @@ mod files; // a file's bytes, or why there are none
 
 use progress::Clock;
 use route::fields::is_word;
-use route::judge::{FINE, judge};
+use route::judge::judge;
 use show::{To, put, put_count};
 use std::env::FillError;
 use std::io::Read;
@@ -40,13 +40,15 @@ fn plan_text<R: std::rt::Clock>(sys: &R, to: To, clock: Clock, name: &[u8], text
     if files::marked(to.err, name, text) {
         return 2;
     }
-    let seen = judge(text);
-    if seen.fault != FINE {
-        messages::lines::fault(to.err, name, text, seen);
-        return 2;
-    }
-    messages::warnings::warn(to.err, name, text, seen.links);
-    let counts = columns::with_table(sys, to, clock, name, text, seen);
+    let judged = match judge(text) {
+        Ok(judged) => judged,
+        Err(wrong) => {
+            messages::lines::fault(to.err, name, text, wrong);
+            return 2;
+        }
+    };
+    messages::warnings::warn(to.err, name, text, judged.links);
+    let counts = columns::with_table(sys, to, clock, name, text, judged);
     if 0 < counts.refused {
         return 1;
     }

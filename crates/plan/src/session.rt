@@ -15,8 +15,8 @@ use path::path_tpc::PathTpc;
 use path_posted::posted_speed::posted_speed;
 use route::fields::float_at;
 use route::fill::train_of;
-use route::judge::Seen;
-use route::kinds::{CLEAR, EXTEND, NEW, POWERS, RECALCULATE, REINDEX, RESISTANCE, SHOW, kind_of};
+use route::judge::Judged;
+use route::kinds::{Call, Kind, kind_of};
 use route::text::next_line;
 use route_reads::reads::{Straps, fixed, list_powers, no_straps, read_line, resistance_line};
 use show::{To, put, put_count, put_real};
@@ -98,14 +98,14 @@ fn counted(mut s: Session, done: bool) -> Session {
 }
 
 // What a call did to the path, behind the word that it is done.
-fn told_change(out: i32, kind: u32, before: PathTpc, p: PathTpc, offsets: &[f64]) {
-    if kind == EXTEND {
+fn told_change(out: i32, kind: Call, before: PathTpc, p: PathTpc, offsets: &[f64]) {
+    if kind == Call::Extend {
         put(out, b", the path has links: ");
         put_count(out, last_of(p.link_count));
         put(out, b", it ends at ");
         put_real(out, column::get(offsets, last_of(p.link_count)));
     }
-    if kind == CLEAR {
+    if kind == Call::Clear {
         put(out, b", links left: ");
         put_count(out, last_of(p.link_count));
         put(out, b" of ");
@@ -117,8 +117,8 @@ fn told_change(out: i32, kind: u32, before: PathTpc, p: PathTpc, offsets: &[f64]
 }
 
 // Whether a call dropped links.
-fn drops(kind: u32, before: PathTpc, p: PathTpc) -> bool {
-    (kind == CLEAR) & (p.link_count < before.link_count)
+fn drops(kind: Call, before: PathTpc, p: PathTpc) -> bool {
+    (kind == Call::Clear) & (p.link_count < before.link_count)
 }
 
 // The links whose limits a call that is done laid anew: those joined by an extension, or all; from one link point to another.
@@ -129,9 +129,9 @@ struct Anew {
     held: usize,
 }
 
-fn laid_by(kind: u32, h: History, before: PathTpc, p: PathTpc) -> Anew {
+fn laid_by(kind: Call, h: History, before: PathTpc, p: PathTpc) -> Anew {
     let to = last_of(p.link_count);
-    if kind == EXTEND {
+    if kind == Call::Extend {
         return Anew {
             from: last_of(before.link_count),
             to,
@@ -180,7 +180,7 @@ fn joined_links(
 
 // What was joined, behind a call; nothing changes by a refused one.
 fn joined(
-    kind: u32,
+    kind: Call,
     s: Session,
     step: Step,
     train: TrainParams,
@@ -203,10 +203,10 @@ fn joined(
     if answer.number != 0 {
         return h;
     }
-    if kind == NEW {
+    if kind == Call::New {
         return History::default();
     }
-    if (kind != EXTEND) & (kind != RECALCULATE) {
+    if (kind != Call::Extend) & (kind != Call::Recalculate) {
         return h;
     }
     let anew = laid_by(kind, h, before, p);
@@ -214,7 +214,7 @@ fn joined(
         offsets, numbers, anew.from, anew.to, sets, codes, values, limits, train, &mut *laid,
         anew.held,
     );
-    if kind == RECALCULATE {
+    if kind == Call::Recalculate {
         return History {
             limits: n,
             borders: h.borders,
@@ -236,18 +236,18 @@ fn joined(
 }
 
 // The straps behind a call that is done.
-fn straps_behind(kind: u32, s: Straps, grades: usize, curves: usize) -> Straps {
-    if kind == NEW {
+fn straps_behind(kind: Call, s: Straps, grades: usize, curves: usize) -> Straps {
+    if kind == Call::New {
         return no_straps();
     }
-    if kind == CLEAR {
+    if kind == Call::Clear {
         return fixed(s, grades, curves);
     }
     s
 }
 
 // The session behind a call that may change the path: its count alone where the call is refused.
-fn behind(kind: u32, s: Session, step: Step, history: History, course: Course) -> Session {
+fn behind(kind: Call, s: Session, step: Step, history: History, course: Course) -> Session {
     let answer = step.answer;
     if answer.number != 0 {
         return counted(s, false);
@@ -256,13 +256,13 @@ fn behind(kind: u32, s: Session, step: Step, history: History, course: Course) -
     let straps = s.straps;
     let mut r = counted(s, true);
     let old = s.path;
-    let dropped = (kind != NEW) & (s.dropped | drops(kind, old, path));
+    let dropped = (kind != Call::New) & (s.dropped | drops(kind, old, path));
     r.path = path;
     r.history = history;
     r.straps = straps_behind(kind, straps, step.grades, step.curves);
     r.course = course;
     r.dropped = dropped;
-    r.warned = s.warned | ((kind == RECALCULATE) & s.dropped);
+    r.warned = s.warned | ((kind == Call::Recalculate) & s.dropped);
     r
 }
 
@@ -272,7 +272,7 @@ fn made(
     name: &[u8],
     text: &[u8],
     at: usize,
-    kind: u32,
+    kind: Call,
     train: TrainParams,
     s: Session,
     offsets: &mut Offsets,
@@ -358,7 +358,7 @@ fn made(
 // What the original and the port post at the beginning of a path whose links were dropped.
 fn compared(
     out: i32,
-    kind: u32,
+    kind: Call,
     before: PathTpc,
     s: Session,
     offsets: &Offsets,
@@ -400,9 +400,9 @@ fn compared(
 }
 
 // A recalculation after a drop: said once for a file.
-fn recalculated(to: To, name: &[u8], kind: u32, s: Session, step: Step) {
+fn recalculated(to: To, name: &[u8], kind: Call, s: Session, step: Step) {
     let answer = step.answer;
-    if (answer.number == 0) & (kind == RECALCULATE) & s.dropped & !s.warned {
+    if (answer.number == 0) & (kind == Call::Recalculate) & s.dropped & !s.warned {
         warning(to.err, name, s.line);
         put(
             to.err,
@@ -425,7 +425,7 @@ fn overfull(to: To, name: &[u8], s: Session, h: History, laid: &Limits) {
 
 // The run of the original behind a call; as it was where the call is refused.
 fn followed(
-    kind: u32,
+    kind: Call,
     s: Session,
     step: Step,
     h: History,
@@ -442,7 +442,7 @@ fn followed(
     if answer.number != 0 {
         return course;
     }
-    let from = if kind == EXTEND { before.limits } else { 0 };
+    let from = if kind == Call::Extend { before.limits } else { 0 };
     course_behind(
         kind,
         course,
@@ -461,7 +461,7 @@ fn changed(
     name: &[u8],
     text: &[u8],
     at: usize,
-    kind: u32,
+    kind: Call,
     train: TrainParams,
     s: Session,
     offsets: &mut Offsets,
@@ -569,7 +569,7 @@ fn looked(
     name: &[u8],
     text: &[u8],
     at: usize,
-    kind: u32,
+    kind: Call,
     train: TrainParams,
     s: Session,
     offsets: &Offsets,
@@ -584,18 +584,18 @@ fn looked(
     let p = s.path;
     let line = s.line;
     begins(to.out, line, kind);
-    if kind == SHOW {
+    if kind == Call::Show {
         put(to.out, b"\n");
         if 0 <= to.out {
             show_table(s, train, speeds, laid);
         }
         return counted(s, true);
     }
-    if kind == POWERS {
+    if kind == Call::Powers {
         list_powers(to.out, powers, districts, p.power_count);
         return counted(s, true);
     }
-    if kind == RESISTANCE {
+    if kind == Call::Resistance {
         let standing = s.straps;
         let r = resistance_line(
             to, name, line, text, at, train, standing, p, offsets, grades, curves,
@@ -649,12 +649,11 @@ fn turn(
     heights: &mut Heights,
     original: &mut Original,
 ) -> Session {
-    let kind = kind_of(text, at);
     let s = at_line(before);
-    if kind < NEW {
+    let Kind::Call(kind) = kind_of(text, at) else {
         return s;
-    }
-    if REINDEX < kind {
+    };
+    if kind.is_reading() {
         return looked(
             to,
             name,
@@ -760,7 +759,7 @@ pub fn run<R: std::rt::Clock>(
     clock: Clock,
     name: &[u8],
     text: &[u8],
-    seen: Seen,
+    judged: Judged,
     offsets: &mut Offsets,
     numbers: &mut Numbers,
     grades: &mut Grades,
@@ -783,7 +782,7 @@ pub fn run<R: std::rt::Clock>(
     heights: &mut Heights,
     original: &mut Original,
 ) -> Counts {
-    let train = train_of(text, seen.train_at);
+    let train = train_of(text, judged.train_at);
     let mut s = start();
     let mut c = clock;
     let mut at = 0;
@@ -817,7 +816,7 @@ pub fn run<R: std::rt::Clock>(
             &mut *heights,
             &mut *original,
         );
-        c = progress(sys, c, to.err, s.done, seen.calls);
+        c = progress(sys, c, to.err, s.done, judged.calls);
         at = next_line(text, at);
     }
     cleared(c, to.err);

@@ -1,7 +1,7 @@
 // A row's fields: its call, the arguments up to a field `:`, and behind that the row's name, which goes to the line's end.
 use crate::columns::{Place, found, line_after};
 use lookup::lin_search_hint::Dir;
-use route::fields::{bytes_at, direction_code, is_word};
+use route::fields::{bytes_at, direction_of, is_word};
 use route::text::Span;
 
 // The number that a field is: a decimal, 0x and 16 hex digits that are its bits, or nan, inf, -inf.
@@ -30,11 +30,7 @@ pub fn count_at(text: &[u8], at: usize, k: usize) -> usize {
 
 // Field k as a direction.
 pub fn dir_at(text: &[u8], at: usize, k: usize) -> Dir {
-    match direction_code(bytes_at(text, at, k)) {
-        1 => Dir::Fwd,
-        2 => Dir::Bwd,
-        _ => Dir::Unk,
-    }
+    direction_of(bytes_at(text, at, k)).unwrap_or(Dir::Unk)
 }
 
 fn is_real(w: &[u8]) -> bool {
@@ -50,7 +46,7 @@ fn fits(text: &[u8], above: &[usize], w: &[u8], kind: u8) -> bool {
     match kind {
         b'x' | b'X' => is_real(w),
         b'n' | b'N' => is_whole(w),
-        b'd' => direction_code(w) < 3,
+        b'd' => direction_of(w).is_some(),
         b'r' => found(text, above, b"reals", w) < text.len(),
         b'w' => found(text, above, b"wholes", w) < text.len(),
         _ => false,

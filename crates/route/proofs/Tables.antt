@@ -1,5 +1,5 @@
 -- What the words mean is what the link table and the train are asked by, and no word of a table hides another.
-use Rattle.std.proofs.Common.{◌≡◌, refl, ℕ, suc, Bool, List, [], ◌∷◌, map, Option, Some, None, option_map, option_and_then}
+use Rattle.std.proofs.Common.{◌≡◌, refl, ℕ, suc, Bool, List, [], ◌∷◌, map, Option, Some, option_map, option_and_then}
 use lib.Ieee.{Float}
 use Rattle.link.specs.Condition.{by_code, param_of}
 use Rattle.link.specs.Train.{type_number}

@@ -1,5 +1,5 @@
 -- The words of a route file and what they mean: the tables that the reader is proved against. Definitions only.
-use Rattle.std.specs.Prelude.{ℕ, suc, cond, List, [], ◌∷◌, map, Option, Some, None}
+use Rattle.std.specs.Prelude.{ℕ, suc, Bool, true, false, cond, List, [], ◌∷◌, map, Option, Some, None}
 use Rattle.std.specs.Option.{unwrap_or}
 use Prim.Native.Char.{code}
 use Prim.Native.String.{String, [] as ending, ◌∷◌ as ◌before◌}
@@ -9,8 +9,9 @@ use Rattle.link.specs.Train.{type_number}
 use Rattle.lookup.specs.declared.lin_search_hint.Dir.{Dir}
 use Rattle.lookup.specs.declared.lin_search_hint.Dir.TheVariants as Toward
 use Rattle.route.specs.declared.kinds.Kind.{Kind}
-use Rattle.route.specs.declared.kinds.Kind.TheVariants.{Blank, Table, Call, Unknown}
+use Rattle.route.specs.declared.kinds.Kind.TheVariants.{Blank, Table, Call as Calls, Unknown}
 use Rattle.route.specs.declared.kinds.TableLine.TheVariants as Of
+use Rattle.route.specs.declared.kinds.Call.{Call}
 use Rattle.route.specs.declared.kinds.Call.TheVariants as To
 use Rattle.route.specs.Fields.{same, no_field, field_bytes}
 
@@ -77,20 +78,36 @@ keywords =
     ∷ ("set" is Table Of.Set)
     ∷ ("when" is Table Of.When)
     ∷ ("limit" is Table Of.Limit)
-    ∷ ("new" is Call To.New)
-    ∷ ("extend" is Call To.Extend)
-    ∷ ("clear" is Call To.Clear)
-    ∷ ("finish" is Call To.Finish)
-    ∷ ("recalculate" is Call To.Recalculate)
-    ∷ ("reindex" is Call To.Reindex)
-    ∷ ("locate" is Call To.Locate)
-    ∷ ("resistance" is Call To.Resistance)
-    ∷ ("grades" is Call To.Grades)
-    ∷ ("curves" is Call To.Curves)
-    ∷ ("powers" is Call To.Powers)
-    ∷ ("show" is Call To.Show)
-    ∷ ("posted" is Call To.Posted)
+    ∷ ("new" is Calls To.New)
+    ∷ ("extend" is Calls To.Extend)
+    ∷ ("clear" is Calls To.Clear)
+    ∷ ("finish" is Calls To.Finish)
+    ∷ ("recalculate" is Calls To.Recalculate)
+    ∷ ("reindex" is Calls To.Reindex)
+    ∷ ("locate" is Calls To.Locate)
+    ∷ ("resistance" is Calls To.Resistance)
+    ∷ ("grades" is Calls To.Grades)
+    ∷ ("curves" is Calls To.Curves)
+    ∷ ("powers" is Calls To.Powers)
+    ∷ ("show" is Calls To.Show)
+    ∷ ("posted" is Calls To.Posted)
     ∷ []
+
+-- whether a call reads the path, and does not change it
+abbrev pub is_reading : Call → Bool
+is_reading To.New = false
+is_reading To.Extend = false
+is_reading To.Clear = false
+is_reading To.Finish = false
+is_reading To.Recalculate = false
+is_reading To.Reindex = false
+is_reading To.Locate = true
+is_reading To.Resistance = true
+is_reading To.Grades = true
+is_reading To.Curves = true
+is_reading To.Powers = true
+is_reading To.Show = true
+is_reading To.Posted = true
 
 -- the kind of the line at `at`: blank where it has no field, unknown where its first is no keyword
 unfoldable pub kind_of : List ℕ → ℕ → Kind

@@ -1,7 +1,6 @@
 -- What the lines of a route fill: the train, and the column of a list. Definitions only.
 use Rattle.std.specs.Prelude.{ℕ, suc, cond, List, [], ◌∷◌}
 use Rattle.std.specs.Option.{unwrap_or}
-use Rattle.link.specs.declared.train_params.TrainType.{TrainType}
 use Rattle.link.specs.declared.train_params.TrainType.TheVariants as Trains
 use Rattle.link.specs.declared.train_params.TrainParams.{TrainParams}
 use Rattle.route.specs.Fields.{field_bytes, no_field, number_at, whole_at, or_zero, whole_or_zero}

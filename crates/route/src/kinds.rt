@@ -35,6 +35,29 @@ pub enum Call {
     Posted,
 }
 
+impl Call {
+    // Whether a call reads the path; the others may change it.
+    pub fn is_reading(self) -> bool
+        ensures { result ≡ spec.is_reading self }
+    {
+        match self {
+            Call::New
+            | Call::Extend
+            | Call::Clear
+            | Call::Finish
+            | Call::Recalculate
+            | Call::Reindex => false,
+            Call::Locate
+            | Call::Resistance
+            | Call::Grades
+            | Call::Curves
+            | Call::Powers
+            | Call::Show
+            | Call::Posted => true,
+        }
+    }
+}
+
 #[derive(Clone, Copy, PartialEq, Eq, Debug)]
 pub enum Kind {
     Blank,

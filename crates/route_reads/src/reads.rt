@@ -8,8 +8,8 @@ use path::path_tpc::PathTpc;
 use path_link_records::link_records::link_range;
 use path_posted::posted_speed::posted_speed;
 use resistance::strap::{Strap, StrapAnswer};
-use route::fields::{bytes_at, count_at, direction_code, float_at};
-use route::kinds::{CURVES, LOCATE, POSTED, RESISTANCE};
+use route::fields::{bytes_at, count_at, direction_of, float_at};
+use route::kinds::Call;
 use show::{To, put, put_count, put_real, put_real_in};
 use si::{Force, Length};
 use train::set_link_and_offset::with_link_and_offset;
@@ -45,14 +45,6 @@ fn position(train: TrainParams, front: f64, back: f64, weight: f64) -> TrainStat
         link_idx_front: 0,
         link_idx_back: 0,
         offset_in_link: Length(0.0),
-    }
-}
-
-fn direction(code: u32) -> Dir {
-    match code {
-        1 => Dir::Fwd,
-        2 => Dir::Bwd,
-        _ => Dir::Unk,
     }
 }
 
@@ -278,7 +270,7 @@ pub fn resistance_line(
     grades: &[f64],
     curves: &[f64],
 ) -> Stood {
-    let dir = direction(direction_code(bytes_at(text, at, 1)));
+    let dir = direction_of(bytes_at(text, at, 1)).unwrap_or(Dir::Unk);
     let x = float_at(text, at, 2);
     let state = position(train, x, float_at(text, at, 3), float_at(text, at, 4));
     let grade = s.grade;
@@ -297,7 +289,7 @@ pub fn resistance_line(
         of_curve
     };
     if refused.number != 0 {
-        reading_refused(to.err, name, line, RESISTANCE, refused, x, p, offsets);
+        reading_refused(to.err, name, line, Call::Resistance, refused, x, p, offsets);
     }
     straps_after(s, g, c)
 }
@@ -327,7 +319,7 @@ fn called(
     out: i32,
     text: &[u8],
     at: usize,
-    kind: u32,
+    kind: Call,
     train: TrainParams,
     p: PathTpc,
     offsets: &[f64],
@@ -338,7 +330,7 @@ fn called(
     powers: &[f64],
     districts: &[u32],
 ) -> Answer {
-    if kind == LOCATE {
+    if kind == Call::Locate {
         return locate(
             out,
             position(train, float_at(text, at, 1), float_at(text, at, 2), 0.0),
@@ -352,7 +344,7 @@ fn called(
             districts,
         );
     }
-    if kind == POSTED {
+    if kind == Call::Posted {
         return posted(
             out,
             float_at(text, at, 1),
@@ -369,7 +361,7 @@ fn called(
     list_records(
         out,
         count_at(text, at, 1) as usize,
-        kind == CURVES,
+        kind == Call::Curves,
         p,
         offsets,
         numbers,
@@ -388,7 +380,7 @@ pub fn read_line(
     line: usize,
     text: &[u8],
     at: usize,
-    kind: u32,
+    kind: Call,
     train: TrainParams,
     p: PathTpc,
     offsets: &[f64],

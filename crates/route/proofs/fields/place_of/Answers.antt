@@ -1,5 +1,5 @@
 -- `place_of`: the place for all trains, or one more than the type's number.
-use Rattle.std.proofs.Common.{◌≡◌, sym, ap, ◌∙◌, suc, map, Some, option_map, add-one, arith}
+use Rattle.std.proofs.Common.{sym, ap, ◌∙◌, suc, map, Some, option_map, add-one, arith}
 use Rattle.link.specs.Train.{type_number}
 use Rattle.route.specs.Codes.{types, place_of_type, ◌is◌}
 use Rattle.route.proofs.Codes.{first-is, first-not, code-map, type-number-up-to}

@@ -1,6 +1,4 @@
 -- `fill_list`: one number a turn; the column so far with what is still to come is the column filled.
-use Prim.Native.Nat.{◌-◌, ◌≤◌}
-use lib.ListN.{length}
 use mathlib.Core.Path.{◌≡◌}
 use Rattle.route.specs.Filled.{listed, list_length}
 use Rattle.route.proofs.Filled.{whole, count}

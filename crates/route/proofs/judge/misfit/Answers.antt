@@ -1,5 +1,5 @@
 -- `misfit`: the first misfit from field k on is the first of all.
-use Rattle.std.proofs.Common.{◌∙◌, ◌+◌, ap, not, arith}
+use Rattle.std.proofs.Common.{◌∙◌, ap, not, arith}
 use Rattle.route.proofs.Filled.{field-asked}
 use Rattle.route.proofs.Forms.{misfit-next, misfit-here, misfit-none, misfit-more}
 use Rattle.route.proofs.judge.misfit.Goals as goal

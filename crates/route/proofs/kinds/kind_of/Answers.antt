@@ -1,5 +1,4 @@
 -- `kind_of`: the first field looked up among the keywords.
-use Rattle.std.proofs.Common.{◌∙◌}
 use Rattle.route.specs.Codes.{kind_of}
 use Rattle.route.proofs.Filled.{field-asked}
 use Rattle.route.proofs.kinds.kind_of.Goals as goal
