@@ -442,7 +442,11 @@ fn followed(
     if answer.number != 0 {
         return course;
     }
-    let from = if kind == Call::Extend { before.limits } else { 0 };
+    let from = if kind == Call::Extend {
+        before.limits
+    } else {
+        0
+    };
     course_behind(
         kind,
         course,

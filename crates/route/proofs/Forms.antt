@@ -32,7 +32,7 @@ module _ (text : List ℕ) (at k : ℕ) (form : List Wanted) (i : ℕ) where
     unfolding misfit_from
     misfit-more n = rw (drop_of_length-le form h, n)
 
--- ---- number i + 1 of a list, where r is whether it is a whole number
+-- ---- number i + 1 of a list, where r is whether it is no whole number
 module _ (text : List ℕ) (at room i : ℕ) where
   abbrev list_from : Option ℕ
   list_from = list_misfit_from text at (i + 1) (room - i)
@@ -61,9 +61,9 @@ module _ (text : List ℕ) (at room i : ℕ) where
     pub list-stop : no_field text at (i + 1) ≡ true → None ≡ list_from
     list-stop n = sym (list_at ∙ rw n)
 
-    module _ (n : no_field text at (i + 1) ≡ false) (r : Bool) (e : r ≡ is_some (whole_at text at (i + 1))) where
-      pub list-next : not r ≡ false → list_misfit_from text at (i + 1 + 1) (room - (i + 1)) ≡ list_from
-      list-next m = sym (list_at ∙ rw (n, ← e, not-false r m, add-one (i + 1)))
+    module _ (n : no_field text at (i + 1) ≡ false) (r : Bool) (e : not r ≡ is_some (whole_at text at (i + 1))) where
+      pub list-next : r ≡ false → list_misfit_from text at (i + 1 + 1) (room - (i + 1)) ≡ list_from
+      list-next m = sym (list_at ∙ rw (n, ← e, m, add-one (i + 1)))
 
-      pub list-here : not r ≡ true → Some (i + 1) ≡ list_from
-      list-here m = sym (list_at ∙ rw (n, ← e, not-true r m))
+      pub list-here : r ≡ true → Some (i + 1) ≡ list_from
+      list-here m = sym (list_at ∙ rw (n, ← e, m))

@@ -128,5 +128,8 @@ pub fn comparison_code(w: &[u8]) -> Option<u32>
 pub fn direction_of(w: &[u8]) -> Option<Dir>
     ensures { result ≡ codes.code_of codes.directions w.now }
 {
-    word_in(w, &[(b"unk", Dir::Unk), (b"fwd", Dir::Fwd), (b"bwd", Dir::Bwd)])
+    word_in(
+        w,
+        &[(b"unk", Dir::Unk), (b"fwd", Dir::Fwd), (b"bwd", Dir::Bwd)],
+    )
 }

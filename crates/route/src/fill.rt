@@ -93,7 +93,11 @@ fn put_link(text: &[u8], at: usize, h: Here, links: &mut [u32]) {
 fn put_set(text: &[u8], at: usize, h: Here, sets: &mut [u32]) {
     let k = set_entry(h.link, h.place);
     column::set(&mut *sets, k, 1);
-    column::set(&mut *sets, k + 1, head_code(bytes_at(text, at, 2)).unwrap_or(0));
+    column::set(
+        &mut *sets,
+        k + 1,
+        head_code(bytes_at(text, at, 2)).unwrap_or(0),
+    );
     column::set(&mut *sets, k + 2, h.conditions);
     column::set(&mut *sets, k + 4, h.limits);
 }

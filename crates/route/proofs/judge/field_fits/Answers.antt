@@ -4,15 +4,15 @@ use Rattle.route.proofs.judge.field_fits.Goals as goal
 
 pub returns-in-Number : goal.returns-in-Number
 unfolding field_fits
-returns-in-Number c = rw c.in-Number.is c.is_number.ensures
+returns-in-Number c = rw (c.in-Number.is, c.is_some.ensures, c.number_at.ensures)
 
 pub returns-in-Whole : goal.returns-in-Whole
 unfolding field_fits
-returns-in-Whole c = rw c.in-Whole.is c.is_whole.ensures
+returns-in-Whole c = rw (c.in-Whole.is, c.is_some-in-Whole.ensures, c.whole_at.ensures)
 
 pub returns-in-TrainType : goal.returns-in-TrainType
 unfolding field_fits
-returns-in-TrainType c = rw (c.in-TrainType.is, c.is_some.ensures, c.type_of.ensures, c.bytes_at-w.ensures)
+returns-in-TrainType c = rw (c.in-TrainType.is, c.is_some-in-TrainType.ensures, c.type_of.ensures, c.bytes_at-w.ensures)
 
 pub returns-in-SetPlace : goal.returns-in-SetPlace
 unfolding field_fits
