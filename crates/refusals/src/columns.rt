@@ -1,144 +1,82 @@
 // Columns of numbers, which lines of the text set: `reals NAME ..` and `wholes NAME ..`; lines `+ ..` behind one continue it.
-ghost use Rattle.std.specs.Prelude.{◌≤◌, length};
+use crate::fields::{Fault, Number, continues, numbers, words};
+use std::alloc::{AllocError, Global};
+use std::collections::BTreeMap;
 
-use crate::fields::reading;
-use route::fields::{bytes_at, is_word};
+// Columns by their names.
+pub type Named<T> = BTreeMap<String, Vec<T>>;
 
-// Field .1 of the line at .0.
-#[derive(Clone, Copy)]
-pub struct Place(pub usize, pub usize);
-
-// Where the line behind the one at `at` begins.
-pub fn line_after(text: &[u8], at: usize) -> usize {
-    if at < text.len() {
-        return route::text::next_line(text, at);
-    }
-    at
+// Each as it was last set.
+#[derive(Drop)]
+pub struct Columns {
+    reals: Named<f64>,
+    wholes: Named<u32>,
 }
 
-// The place behind p: behind a line's last field the first one of a line that continues it.
-pub fn after(text: &[u8], p: Place) -> Place {
-    let k = std::num::wrapping_add_usize(p.1, 1);
-    let next = line_after(text, p.0);
-    if bytes_at(text, p.0, k).len() == 0 {
-        if is_word(bytes_at(text, next, 0), b"+") {
-            return Place(next, 1);
+// Whether a line that begins with this word sets a column.
+pub fn is_kind(w: &str) -> bool {
+    w == "reals" || w == "wholes"
+}
+
+// The words of a column: those behind its name, and those of the lines that continue it.
+pub fn continued<'a>(
+    alloc: Global,
+    own: &[&'a str],
+    behind: &[&'a str],
+) -> Result<Vec<&'a str>, AllocError> {
+    let mut all = Vec::from_slice(alloc, own)?;
+    for line in behind.iter().take_while(|line| continues(line)) {
+        all.extend_from_slice(words(alloc, line)?.get(1..).unwrap_or(&[]))?;
+    }
+    Ok(all)
+}
+
+fn put<T: Number + Drop>(
+    alloc: Global,
+    named: &mut Named<T>,
+    name: &str,
+    ws: &[&str],
+) -> Result<(), Fault> {
+    let col = numbers(alloc, ws)?;
+    let key = String::from_str(alloc, name)?;
+    named.insert(key, col).map_err(AllocError::from)?;
+    Ok(())
+}
+
+// The column of a name; a line that names none cannot be read.
+fn find<'a, T>(named: &'a Named<T>, name: &str) -> Result<&'a [T], Fault> {
+    named
+        .get(name)
+        .map(|col| col.as_slice())
+        .ok_or(Fault::Unreadable)
+}
+
+impl Columns {
+    pub fn new(alloc: Global) -> Columns {
+        Columns {
+            reals: BTreeMap::new(alloc),
+            wholes: BTreeMap::new(alloc),
         }
     }
-    Place(p.0, k)
-}
 
-// The numbers from a place on, up to the first field that is none; how many there are.
-pub fn reals_from(text: &[u8], from: Place, col: &mut [f64]) -> usize
-    ensures { result ≤ length col.new }
-{
-    let mut p = from;
-    let mut i = 0;
-    while i < col.len() {
-        let Some(x) = reading(bytes_at(text, p.0, p.1)) else {
-            return i;
-        };
-        col[i] = x;
-        p = after(text, p);
-        i += 1;
-    }
-    i
-}
-
-// The same for whole numbers.
-pub fn wholes_from(text: &[u8], from: Place, col: &mut [u32]) -> usize
-    ensures { result ≤ length col.new }
-{
-    let mut p = from;
-    let mut i = 0;
-    while i < col.len() {
-        let Some(n) = route::fields::whole_at(text, p.0, p.1) else {
-            return i;
-        };
-        col[i] = n;
-        p = after(text, p);
-        i += 1;
-    }
-    i
-}
-
-// Notes where a column begins.
-pub fn put(above: &mut [usize], i: usize, at: usize) {
-    if i < above.len() {
-        above[i] = at;
-    }
-}
-
-// Where the last column of a kind and name begins; the text's end where there is none.
-pub fn found(text: &[u8], above: &[usize], kind: &[u8], name: &[u8]) -> usize {
-    let mut line = text.len();
-    let mut i = 0;
-    while i < above.len() {
-        let at = above[i];
-        if is_word(bytes_at(text, at, 0), kind) & is_word(bytes_at(text, at, 1), name) {
-            line = at;
+    pub fn set(&mut self, alloc: Global, kind: &str, name: &str, ws: &[&str]) -> Result<(), Fault> {
+        if kind == "reals" {
+            put(alloc, &mut self.reals, name, ws)
+        } else {
+            put(alloc, &mut self.wholes, name, ws)
         }
-        i += 1;
     }
-    line
-}
 
-// The column of a name, as it was last set; how many entries it has.
-pub fn fill_reals(text: &[u8], above: &[usize], name: &[u8], col: &mut [f64]) -> usize
-    ensures { result ≤ length col.new }
-{
-    let at = found(text, above, b"reals", name);
-    reals_from(text, Place(at, 2), &mut *col)
-}
-
-pub fn fill_wholes(text: &[u8], above: &[usize], name: &[u8], col: &mut [u32]) -> usize
-    ensures { result ≤ length col.new }
-{
-    let at = found(text, above, b"wholes", name);
-    wholes_from(text, Place(at, 2), &mut *col)
-}
-
-// The first n entries of a column, all where it has fewer.
-pub fn cut_reals(col: &[f64], n: usize) -> &[f64] {
-    if n <= col.len() {
-        return &col[..n];
+    pub fn reals(&self, name: &str) -> Result<&[f64], Fault> {
+        find(&self.reals, name)
     }
-    col
-}
 
-pub fn cut_wholes(col: &[u32], n: usize) -> &[u32] {
-    if n <= col.len() {
-        return &col[..n];
+    pub fn wholes(&self, name: &str) -> Result<&[u32], Fault> {
+        find(&self.wholes, name)
     }
-    col
-}
 
-// The column of a name with zeros behind it, and how such a column is lent: cut to its entries.
-pub fn reals(text: &[u8], above: &[usize], name: &[u8]) -> [f64; 256] {
-    let mut col = [0.0; 256];
-    fill_reals(text, above, name, &mut col);
-    col
-}
-
-pub fn wholes(text: &[u8], above: &[usize], name: &[u8]) -> [u32; 256] {
-    let mut col = [0; 256];
-    fill_wholes(text, above, name, &mut col);
-    col
-}
-
-pub fn lent_reals<'a>(text: &[u8], above: &[usize], name: &[u8], col: &'a [f64; 256]) -> &'a [f64] {
-    let mut room = [0.0; 256];
-    let n = fill_reals(text, above, name, &mut room);
-    cut_reals(col, n)
-}
-
-pub fn lent_wholes<'a>(
-    text: &[u8],
-    above: &[usize],
-    name: &[u8],
-    col: &'a [u32; 256],
-) -> &'a [u32] {
-    let mut room = [0; 256];
-    let n = fill_wholes(text, above, name, &mut room);
-    cut_wholes(col, n)
+    // The list LIST RECORDS: its column, and how many records it is said to have.
+    pub fn list(&self, list: &str, records: &str) -> Result<(&[f64], usize), Fault> {
+        Ok((self.reals(list)?, crate::fields::count(records)?))
+    }
 }

@@ -1,122 +1,112 @@
-// A row's fields: its call, the arguments up to a field `:`, and behind that the row's name, which goes to the line's end.
-use crate::columns::{Place, found, line_after};
+// The words of a line, and what the arguments of a call are: numbers, directions, columns, positions.
+use crate::columns::Columns;
 use lookup::lin_search_hint::Dir;
-use route::fields::{bytes_at, direction_of, is_word};
-use route::text::Span;
+use show::Whole;
+use si::{Force, Length};
+use std::alloc::{AllocError, Global};
+use std::fmt;
+use train::train_state::TrainState;
 
-// The number that a field is: a decimal, 0x and 16 hex digits that are its bits, or nan, inf, -inf.
-pub fn reading(w: &[u8]) -> Option<f64> {
-    if is_word(w, b"nan") {
-        return Some(0.0 / 0.0);
-    }
-    if is_word(w, b"inf") {
-        return Some(1.0 / 0.0);
-    }
-    if is_word(w, b"-inf") {
-        return Some(0.0 - 1.0 / 0.0);
-    }
-    decimal::number::read_number(w)
+// Why a line has no answer.
+#[derive(Debug, Drop)]
+pub enum Fault {
+    Unreadable,
+    Memory(AllocError),
 }
 
-// Field k as a number; 0 where it is none.
-pub fn real_at(text: &[u8], at: usize, k: usize) -> f64 {
-    reading(bytes_at(text, at, k)).unwrap_or(0.0)
-}
-
-// Field k as a count.
-pub fn count_at(text: &[u8], at: usize, k: usize) -> usize {
-    route::fields::count_at(text, at, k) as usize
-}
-
-// Field k as a direction.
-pub fn dir_at(text: &[u8], at: usize, k: usize) -> Dir {
-    direction_of(bytes_at(text, at, k)).unwrap_or(Dir::Unk)
-}
-
-fn is_real(w: &[u8]) -> bool {
-    reading(w).is_some()
-}
-
-fn is_whole(w: &[u8]) -> bool {
-    decimal::whole::read_whole(w).is_some()
-}
-
-// Whether a field is of a kind: x a number, n a whole number, d a direction, r and w the name of a column of reals and of wholes.
-fn fits(text: &[u8], above: &[usize], w: &[u8], kind: u8) -> bool {
-    match kind {
-        b'x' | b'X' => is_real(w),
-        b'n' | b'N' => is_whole(w),
-        b'd' => direction_of(w).is_some(),
-        b'r' => found(text, above, b"reals", w) < text.len(),
-        b'w' => found(text, above, b"wholes", w) < text.len(),
-        _ => false,
+impl From<AllocError> for Fault {
+    fn from(e: AllocError) -> Fault {
+        Fault::Memory(e)
     }
 }
 
-// Whether the arguments are any number of x or n, said by one capital letter.
-fn is_any(kinds: &[u8]) -> bool {
-    if kinds.len() == 1 {
-        return kinds[0] < b'a';
-    }
-    false
+// The words of a line, apart by blanks; from # to the line's end is a comment.
+pub fn words(alloc: Global, line: &str) -> Result<Vec<&str>, AllocError> {
+    let text = line.split_once('#').map_or(line, |(before, _)| before);
+    text.split_ascii_whitespace().map(Ok).try_collect(alloc)
 }
 
-// The kind of argument i; 0 where there is none.
-fn kind_at(kinds: &[u8], i: usize) -> u8 {
-    let k = if is_any(kinds) { 0 } else { i };
-    if k < kinds.len() {
-        return kinds[k];
-    }
-    0
+// Whether a line continues the column before it.
+pub fn continues(line: &str) -> bool {
+    line.split_ascii_whitespace().next() == Some("+")
 }
 
-// The first place from p on whose field is not of its kind, or the one behind 256 that are.
-fn misfit(text: &[u8], above: &[usize], from: Place, kinds: &[u8]) -> Place {
-    let mut p = from;
-    let mut i = 0;
-    while i < 256 {
-        if !fits(text, above, bytes_at(text, p.0, p.1), kind_at(kinds, i)) {
-            return p;
+// A number as it is read and printed.
+pub trait Number: Copy {
+    type Form: fmt::Display + Drop;
+
+    // What a word is; none where it is no such number.
+    fn read(w: &str) -> Option<Self>;
+
+    fn form(self) -> Self::Form;
+}
+
+// A decimal, 0x and 16 hex digits that are its bits, or nan, inf, -inf.
+impl Number for f64 {
+    type Form = Whole;
+
+    fn read(w: &str) -> Option<f64> {
+        match w {
+            "nan" => Some(f64::NAN),
+            "inf" => Some(f64::INFINITY),
+            "-inf" => Some(f64::NEG_INFINITY),
+            _ => decimal::number::read_number(w.as_bytes()),
         }
-        p = crate::columns::after(text, p);
-        i += 1;
     }
-    p
-}
 
-// Whether a line sets a column of this kind that there is room for.
-fn sets_kind(text: &[u8], at: usize, kind: &[u8], any: &[u8]) -> bool {
-    if !is_word(bytes_at(text, at, 0), kind) {
-        return false;
-    }
-    let p = misfit(text, &[], Place(at, 2), any);
-    (bytes_at(text, p.0, p.1).len() == 0) & (bytes_at(text, at, 1).len() != 0)
-}
-
-// Whether a line sets a column.
-pub fn sets(text: &[u8], at: usize) -> bool {
-    sets_kind(text, at, b"reals", b"X") | sets_kind(text, at, b"wholes", b"N")
-}
-
-// The name of the row at `at`, behind field k.
-fn say_name(text: &[u8], at: usize, k: usize) {
-    let from = route::text::field_from(text, route::text::field(text, at, k).to).from;
-    let end = line_after(text, at);
-    if 0 < end {
-        show::say(route::text::part(text, Span { from, to: end - 1 }));
+    fn form(self) -> Whole {
+        Whole(self)
     }
 }
 
-// Whether a line is this call with arguments of these kinds; its name is printed where it is.
-pub fn begins(text: &[u8], above: &[usize], at: usize, call: &[u8], kinds: &[u8]) -> bool {
-    if !is_word(bytes_at(text, at, 0), call) {
-        return false;
+impl Number for u32 {
+    type Form = u32;
+
+    fn read(w: &str) -> Option<u32> {
+        decimal::whole::read_whole(w.as_bytes())
     }
-    let p = misfit(text, above, Place(at, 1), kinds);
-    let all = is_any(kinds) | (p.1 == kinds.len() + 1);
-    if all & is_word(bytes_at(text, p.0, p.1), b":") {
-        say_name(text, at, p.1);
-        return true;
+
+    fn form(self) -> u32 {
+        self
     }
-    false
+}
+
+// The number that a word is.
+pub fn to_number<T: Number>(w: &str) -> Result<T, Fault> {
+    T::read(w).ok_or(Fault::Unreadable)
+}
+
+pub fn numbers<T: Number + Drop>(alloc: Global, ws: &[&str]) -> Result<Vec<T>, Fault> {
+    ws.iter().map(|w| to_number::<T>(w)).try_collect(alloc)
+}
+
+pub fn length(w: &str) -> Result<Length, Fault> {
+    Ok(Length(to_number(w)?))
+}
+
+pub fn count(w: &str) -> Result<usize, Fault> {
+    Ok(to_number::<u32>(w)? as usize)
+}
+
+pub fn dir(w: &str) -> Result<Dir, Fault> {
+    match w {
+        "unk" => Ok(Dir::Unk),
+        "fwd" => Ok(Dir::Fwd),
+        "bwd" => Ok(Dir::Bwd),
+        _ => Err(Fault::Unreadable),
+    }
+}
+
+// The position TRAIN FRONT BACK. A train is a column with its length and its weight.
+pub fn state(columns: &Columns, train: &str, front: &str, back: &str) -> Result<TrainState, Fault> {
+    let train = columns.reals(train)?;
+    Ok(TrainState {
+        offset: length(front)?,
+        offset_back: length(back)?,
+        length: Length(column::get(train, 0)),
+        weight_static: Force(column::get(train, 1)),
+        link_idx_front: 0,
+        link_idx_back: 0,
+        offset_in_link: Length(0.0),
+    })
 }

@@ -2,7 +2,7 @@
 #![tactic(auto)]
 
 mod columns; // columns of numbers that lines of the text set
-mod fields; // the call of a line, its arguments and its name
+mod fields; // the words of a line, and what a call's arguments are
 mod answers; // answers as they are printed
 mod searches; // searches in a list of records
 mod points; // Point on a list
@@ -10,91 +10,110 @@ mod straps; // Strap on a list, and its walk over many positions
 mod paths; // positions, posted speeds and lists of trims on a path
 mod tables; // questions 4 to 7 of a link table
 
-use route::fields::{bytes_at, is_word};
-use show::{count, say};
-use std::num::wrapping_add_usize;
+use answers::Shown;
+use columns::Columns;
+use fields::{Fault, words};
+use std::alloc::{AllocError, Global};
+use std::io;
 
-// How many lines there were, how many of them set a column, are a row, or cannot be read, and whether the last one set a column.
+// What a line that can be read is.
+#[derive(Drop)]
+enum Line<'a> {
+    Empty,
+    Column,
+    Row(&'a str, Shown),
+}
+
+// How many rows there were, and how many lines that cannot be read.
 #[derive(Clone, Copy)]
 struct Seen {
-    lines: usize,
-    columns: usize,
     rows: usize,
     faults: usize,
-    open: bool,
 }
 
-// Runs the row at `at`; whether there is one that can be read. The list that most rows begin with is laid out here.
-fn row(text: &[u8], above: &[usize], at: usize) -> bool {
-    let mut room = [0.0; 256];
-    let n = columns::fill_reals(text, above, bytes_at(text, at, 1), &mut room);
-    let list = columns::cut_reals(&room, n);
-    searches::row(text, above, at, list)
-        || points::row(text, above, at, list)
-        || straps::row(text, above, at, list)
-        || paths::row(text, above, at)
-        || tables::row(text, above, at)
+// What a call answers.
+fn run_call(alloc: Global, columns: &Columns, call: &str, args: &[&str]) -> Result<Shown, Fault> {
+    match call {
+        "calc_idx" => searches::calc_idx(columns, args).map(Shown::Reply),
+        "position" => paths::position(alloc, columns, args).map(Shown::Reply),
+        "posted" => paths::posted(alloc, columns, args).map(Shown::Reply),
+        "trims" => paths::trims(alloc, columns, args).map(Shown::Trimmed),
+        "ask" => tables::ask(alloc, columns, args).map(Shown::Asked),
+        "edit" => tables::edit(alloc, columns, args).map(Shown::Edited),
+        _ if call.starts_with("Point::") => points::answer(columns, call, args).map(Shown::Reply),
+        _ => straps::answer(columns, call, args).map(Shown::Reply),
+    }
 }
 
-// One line more.
-fn line(text: &[u8], above: &mut [usize], at: usize, mut s: Seen) -> Seen {
-    s.lines = wrapping_add_usize(s.lines, 1);
-    let w = bytes_at(text, at, 0);
-    let more = s.open & is_word(w, b"+");
-    s.open = more;
-    if (w.len() == 0) | more {
-        return s;
+// A row, CALL ARGUMENT .. : NAME. The name goes to the line's end.
+fn row<'a>(alloc: Global, columns: &Columns, line: &'a str) -> Result<Line<'a>, Fault> {
+    let (call, name) = line.split_once(" : ").ok_or(Fault::Unreadable)?;
+    let args = words(alloc, call)?;
+    match args.as_slice() {
+        [] => Err(Fault::Unreadable),
+        [call, args @ ..] => Ok(Line::Row(
+            name.trim_start(),
+            run_call(alloc, columns, call, args)?,
+        )),
     }
-    if fields::sets(text, at) & (s.columns < above.len()) {
-        columns::put(&mut *above, s.columns, at);
-        s.columns = wrapping_add_usize(s.columns, 1);
-        s.open = true;
-        return s;
+}
+
+// The first of these lines; where it sets a column, the lines behind it may continue it.
+fn read<'a>(alloc: Global, columns: &mut Columns, lines: &[&'a str]) -> Result<Line<'a>, Fault> {
+    let Some((line, behind)) = lines.split_first() else {
+        return Ok(Line::Empty);
+    };
+    let first = words(alloc, line)?;
+    match first.as_slice() {
+        [] => Ok(Line::Empty),
+        [kind, name, numbers @ ..] if columns::is_kind(kind) => {
+            let all = columns::continued(alloc, numbers, behind)?;
+            columns.set(alloc, kind, name, &all)?;
+            Ok(Line::Column)
+        }
+        _ => row(alloc, columns, line),
     }
-    if row(text, &*above, at) {
-        s.rows = wrapping_add_usize(s.rows, 1);
-        return s;
-    }
-    say(b"cannot be read: line");
-    count(s.lines);
-    say(b"\n");
-    s.faults = wrapping_add_usize(s.faults, 1);
-    s
+}
+
+// Every line of a text.
+fn lines_of(alloc: Global, text: &str) -> Result<Vec<&str>, AllocError> {
+    text.lines().map(Ok).try_collect(alloc)
 }
 
 // One line after another, and how many rows there were.
-fn run(text: &[u8], above: &mut [usize]) {
-    let mut s = Seen {
-        lines: 0,
-        columns: 0,
-        rows: 0,
-        faults: 0,
-        open: false,
-    };
-    let mut at = 0;
-    while at < text.len() {
-        s = line(text, &mut *above, at, s);
-        at = route::text::next_line(text, at);
+fn run(rt: &impl Print, alloc: Global, text: &str) -> io::Result<Seen> {
+    let lines = lines_of(alloc, text)?;
+    let mut columns = Columns::new(alloc);
+    let mut seen = Seen { rows: 0, faults: 0 };
+    let mut open = false;
+    for i in 0..lines.len() {
+        if open && fields::continues(lines[i]) {
+            continue;
+        }
+        let line = read(alloc, &mut columns, &lines[i..]);
+        open = matches!(line, Ok(Line::Column));
+        match line {
+            Ok(Line::Row(name, shown)) => {
+                println!(rt; "{name}{shown}")?;
+                seen.rows = seen.rows.saturating_add(1);
+            }
+            Err(Fault::Unreadable) => {
+                println!(rt; "cannot be read: line {}", i + 1)?;
+                seen.faults = seen.faults.saturating_add(1);
+            }
+            Err(Fault::Memory(e)) => return Err(io::Error::from(e)),
+            Ok(_) => {}
+        }
     }
-    say(b"rows run:");
-    count(s.rows);
-    say(b"; lines that cannot be read:");
-    count(s.faults);
-    say(b"\n");
+    Ok(seen)
 }
 
-// The first n bytes of a text; one that fills its room may be longer.
-fn run_bytes(text: &[u8], n: usize) {
-    let mut above = [0; 128];
-    if n < text.len() {
-        run(&text[..n], &mut above);
-        return;
-    }
-    say(b"the text is too long\n");
-}
-
-fn main() {
-    let mut text = [0u8; 100000];
-    let n = io::read_full(show::STDIN_FILENO, &mut text);
-    run_bytes(&text, n);
+fn main(rt: HostRuntime) -> io::Result<()> {
+    let alloc = rt.alloc();
+    let text = io::read_to_string(alloc, rt.reader())?;
+    let seen = run(&rt, alloc, &text)?;
+    println!(rt;
+        "rows run: {}; lines that cannot be read: {}",
+        seen.rows, seen.faults
+    )
 }

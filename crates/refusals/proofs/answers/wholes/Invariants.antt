@@ -1,9 +1,0 @@
--- `wholes`: one entry a turn.
-use Rattle.std.proofs.Common.{◌-◌, length}
-use Rattle.refusals.proofs.answers.wholes.Given as goal
-
-abbrev pub invariant-loop-i : goal.invariant-loop-i
-invariant-loop-i l = Unit {0}
-
-abbrev pub decreases-loop-i : goal.decreases-loop-i
-decreases-loop-i l = length l.col - l.i

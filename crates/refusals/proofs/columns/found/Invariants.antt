@@ -1,9 +1,0 @@
--- `found`: one column a turn.
-use Rattle.std.proofs.Common.{◌-◌, length}
-use Rattle.refusals.proofs.columns.found.Given as goal
-
-abbrev pub invariant-loop-i : goal.invariant-loop-i
-invariant-loop-i l = Unit {0}
-
-abbrev pub decreases-loop-i : goal.decreases-loop-i
-decreases-loop-i l = length l.above - l.i

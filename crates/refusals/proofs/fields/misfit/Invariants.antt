@@ -1,9 +1,0 @@
--- `misfit`: one field a turn.
-use Rattle.std.proofs.Common.{◌-◌}
-use Rattle.refusals.proofs.fields.misfit.Given as goal
-
-abbrev pub invariant-loop-i : goal.invariant-loop-i
-invariant-loop-i l = Unit {0}
-
-abbrev pub decreases-loop-i : goal.decreases-loop-i
-decreases-loop-i l = 256 - l.i
