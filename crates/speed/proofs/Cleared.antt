@@ -1,7 +1,7 @@
 -- The drop at a new beginning: which point stays first, and what the move of it makes of the points.
 use Prim.Native.Nat.{ℕ, zero, suc, ◌-◌, ◌*◌, ◌≤◌, ◌<◌}
 use native.Mathlib.Omega.{arith}
-use mathlib.Core.Path.{◌≡◌, refl, ap, ◌∙◌}
+use mathlib.Core.Path.{◌≡◌, refl, sym, ap, ◌∙◌}
 use mathlib.Core.Bool.{Bool, true, false, cond}
 use mathlib.Core.List.{List, [], ◌∷◌}
 use lib.ListN.{length, drop}
@@ -35,13 +35,21 @@ at-below X (suc k) (p ∷ ps) t = omega (arith, at-below X k ps t)
 module _ (X : Float) (ps : List Point) where
   -- k is the first point at or after X, or the count where there is none
   module _ (k : ℕ) (first : k ≡ first_from X ps) where
-    pub kept_at : k < length ps → Ieee.eq (offset_at ps k) X ≡ true → clear_from ps X ≡ k
+    pub kept_at : {o : Float} → k < length ps → o ≡ offset_at ps k → Ieee.eq o X ≡ true → k ≡ clear_from ps X
     unfolding clear_from
-    kept_at h t = rw (← first, drop-cons ps k nowhere h, t)
+    kept_at h e t =
+        let u : Ieee.eq (offset_at ps k) X ≡ true = ap (λ (o : Float). Ieee.eq o X) (sym e) ∙ t in
+        rw (← first, drop-cons ps k nowhere h, u)
 
-    pub kept-before : (k < length ps → Ieee.eq (offset_at ps k) X ≡ false) → clear_from ps X ≡ k - 1
+    before : (k < length ps → Ieee.eq (offset_at ps k) X ≡ false) → k - 1 ≡ clear_from ps X
     unfolding clear_from
-    kept-before h = rw (← first, none-at X k ps h)
+    before h = rw (← first, none-at X k ps h)
+
+    pub kept-before : {o : Float} → o ≡ offset_at ps k → Ieee.eq o X ≡ false → k - 1 ≡ clear_from ps X
+    kept-before e t = before (λ g. ap (λ (o : Float). Ieee.eq o X) (sym e) ∙ t)
+
+    pub kept_last : length ps ≤ k → k - 1 ≡ clear_from ps X
+    kept_last h = before (λ g. absurd (omega arith))
 
   pub clear-below : 0 < length ps → clear_from ps X < length ps
   unfolding clear_from

@@ -14,10 +14,8 @@ impl SpeedPoints<'_> {
         ensures { result ≡ clear_from self.now x.0 }
     {
         let k = self.first_from(x);
-        if k < self.len() {
-            if self.offset_at(k).0 == x.0 {
-                return k;
-            }
+        if k < self.len() && self.offset_at(k).0 == x.0 {
+            return k;
         }
         k.saturating_sub(1)
     }
