@@ -192,6 +192,7 @@ pub fn number_fault(text: &[u8]) -> Option<Fault>
 }
 
 // Why a text is no whole number; none where it is one.
+// Apart from `number_fault`: one generic function of both would take the reader and the reason as closures, and be no plainer than a match.
 #[tactic(auto, unfolding(crate::specs::Fault::whole_fault_of))]
 pub fn whole_fault(text: &[u8]) -> Option<WholeFault>
     ensures { result ≡ spec.whole_fault_of text.now }

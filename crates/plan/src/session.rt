@@ -11,6 +11,7 @@ use messages::lines::begins;
 use messages::outcomes::outcome;
 use messages::refusals::change_refused;
 use messages::warnings::warning;
+use path::columns::PathColumns;
 use path::path_tpc::PathTpc;
 use path_posted::posted_speed::posted_speed;
 use route::fields::float_at;
@@ -18,7 +19,7 @@ use route::fill::train_of;
 use route::judge::Judged;
 use route::kinds::{Call, Kind, kind_of};
 use route::text::next_line;
-use route_reads::reads::{Straps, fixed, list_powers, no_straps, read_line, resistance_line};
+use route_reads::reads::{PathView, Straps, fixed, list_powers, read_line, resistance_line};
 use show::{To, put, put_count, put_real};
 use si::{Length, Velocity};
 use view::history::{History, add_links};
@@ -31,7 +32,7 @@ use view::stretches::{Posted, table};
 pub struct Session {
     pub path: PathTpc,
     pub history: History,
-    pub straps: Straps,
+    pub straps: Option<Straps>, // once they stand on the path
     pub course: Course,
     pub line: usize,
     pub done: usize,
@@ -59,7 +60,7 @@ fn start() -> Session {
     Session {
         path,
         history: History::default(),
-        straps: no_straps(),
+        straps: None,
         course: no_course(),
         line: 0,
         done: 0,
@@ -236,12 +237,12 @@ fn joined(
 }
 
 // The straps behind a call that is done.
-fn straps_behind(kind: Call, s: Straps, grades: usize, curves: usize) -> Straps {
+fn straps_behind(kind: Call, s: Option<Straps>, grades: usize, curves: usize) -> Option<Straps> {
     if kind == Call::New {
-        return no_straps();
+        return None;
     }
     if kind == Call::Clear {
-        return fixed(s, grades, curves);
+        return fixed(s?, grades, curves);
     }
     s
 }
@@ -585,7 +586,6 @@ fn looked(
     districts: &Districts,
     laid: &Limits,
 ) -> Session {
-    let p = s.path;
     let line = s.line;
     begins(to.out, line, kind);
     if kind == Call::Show {
@@ -595,24 +595,29 @@ fn looked(
         }
         return counted(s, true);
     }
+    let path = PathView {
+        record: s.path,
+        columns: PathColumns {
+            offsets,
+            numbers,
+            grades,
+            curves,
+            speeds,
+            powers,
+            districts,
+        },
+    };
     if kind == Call::Powers {
-        list_powers(to.out, powers, districts, p.power_count);
+        list_powers(to.out, &path);
         return counted(s, true);
     }
     if kind == Call::Resistance {
-        let standing = s.straps;
-        let r = resistance_line(
-            to, name, line, text, at, train, standing, p, offsets, grades, curves,
-        );
-        let straps = r.straps;
-        let mut after = counted(s, r.done);
-        after.straps = straps;
+        let straps = resistance_line(to, name, line, text, at, train, s.straps, &path);
+        let mut after = counted(s, straps.is_some());
+        after.straps = straps.or(s.straps);
         return after;
     }
-    let done = read_line(
-        to, name, line, text, at, kind, train, p, offsets, numbers, grades, curves, speeds, powers,
-        districts,
-    );
+    let done = read_line(to, name, line, text, at, kind, train, &path);
     counted(s, done)
 }
 

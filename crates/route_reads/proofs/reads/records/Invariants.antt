@@ -1,9 +1,0 @@
--- `records`: one record a turn.
-use Prim.Native.Nat.{◌-◌}
-use Rattle.route_reads.proofs.reads.records.Given as goal
-
-abbrev pub invariant-loop-i : goal.invariant-loop-i
-invariant-loop-i l = Unit {0}
-
-abbrev pub decreases-loop-i : goal.decreases-loop-i
-decreases-loop-i l = l.to - l.i
