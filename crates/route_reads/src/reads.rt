@@ -262,12 +262,7 @@ fn called(
             locate(out, state, p)
         }
         Call::Posted => posted(out, float_at(text, at, 1), p),
-        _ => list_records(
-            out,
-            count_at(text, at, 1) as usize,
-            kind == Call::Curves,
-            p,
-        ),
+        _ => list_records(out, count_at(text, at, 1) as usize, kind == Call::Curves, p),
     }
 }
 
