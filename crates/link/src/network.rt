@@ -132,7 +132,12 @@ impl Network<'_> {
         if set_at(self.sets, i, p).present == 0 {
             return true;
         }
-        set_formed(self.codes, self.values, self.limits, set_at(self.sets, i, p))
+        set_formed(
+            self.codes,
+            self.values,
+            self.limits,
+            set_at(self.sets, i, p),
+        )
     }
 
     // Question 6 of the eight set places of link i.
@@ -170,7 +175,11 @@ impl Network<'_> {
         if !samples_formed(self.headings, first, count, Length(length)) {
             return false;
         }
-        if !limits_formed(self.powers, l.powers_first as usize, l.powers_count as usize) {
+        if !limits_formed(
+            self.powers,
+            l.powers_first as usize,
+            l.powers_count as usize,
+        ) {
             return false;
         }
         self.sets_formed(i)

@@ -88,7 +88,6 @@ pub fn coeffs_finite(col: &[f64], n: usize, closes: bool) -> bool
         return before;
     }
     let last = closes_well(col[k], closes);
-    let rest = ieee::is_finite(column::get(col, k + 1))
-        & ieee::is_finite(column::get(col, k + 2));
+    let rest = ieee::is_finite(column::get(col, k + 1)) & ieee::is_finite(column::get(col, k + 2));
     before & (last & rest)
 }
