@@ -1,5 +1,5 @@
 -- Laws of conditions: the axle limit by its size, a kind by its code, question 6, and a list of conditions.
-use Rattle.std.proofs.Common.{◌≡◌, ℕ, zero, suc, ◌+◌, ◌-◌, ◌*◌, ◌/◌, ◌^◌, ◌<◌, ◌≤◌, min, Bool, true, false, ◌&&◌, T, leb, pos, sym, refl, ap, ◌∙◌, mul-pos, le-div_iff_mul-le, add-one, arith, le→leb, leb→le, ne_eqb, le-leb, leb-false, leb-true, Option, Some, None}
+use Rattle.std.proofs.Common.{◌≡◌, ℕ, zero, suc, ◌+◌, ◌-◌, ◌*◌, ◌/◌, ◌^◌, ◌<◌, ◌≤◌, min, true, false, ◌&&◌, T, leb, pos, sym, refl, ap, ◌∙◌, mul-pos, le-div_iff_mul-le, add-one, arith, le→leb, leb→le, le-leb, leb-false, leb-true, Option, Some, None}
 use lib.Ieee as Ieee
 use lib.Ieee.{Float, nan, inf, fin, up, down}
 use lib.Ieee.Fits.{down_pos}
@@ -10,7 +10,7 @@ use Rattle.link.specs.declared.train_params.TrainParams.{TrainParams}
 use Rattle.link.specs.declared.speed_param.SpeedParam.{SpeedParam}
 use Rattle.link.specs.declared.speed_param.SpeedParam.TheVariants.{MassTotal, MassPerBrake, AxleCount}
 use Rattle.link.specs.Lists.{every, up_from}
-use Rattle.link.specs.Condition.{Condition, by_code, holds, applies, axle_limit, param_of, ParamTold, param_told, condition_formed}
+use Rattle.link.specs.Condition.{Condition, holds, applies, axle_limit, param_of, ParamTold, param_told, condition_formed}
 
 -- ---- the axle limit
 -- a whole number

@@ -8,7 +8,7 @@ use Rattle.ieee.specs.Number.{+0}
 use Rattle.link.specs.declared.network.LinkNumbers.{LinkNumbers}
 use Rattle.link.specs.Lists.{every, up_from, first_no_from}
 use Rattle.link.specs.Table.{LinkTable, sample_at, limit_at, power_at, set_at, numbers_of, link_at, in_table}
-use Rattle.link.specs.Questions.{apart, follows, follows_last, contiguous, samples_formed, limit_formed, power_formed, set_formed, in_pools, well_formed}
+use Rattle.link.specs.Questions.{apart, follows_last, contiguous, samples_formed, limit_formed, power_formed, set_formed, in_pools, well_formed}
 use Rattle.link.proofs.Loops.{range-more, range_none}
 
 -- two comparisons agree

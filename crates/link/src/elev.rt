@@ -39,7 +39,7 @@ fn sample_at(col: &[f64], i: usize) -> Two
     column::record_at::<column::Two>(col, i)
 }
 
-// Elevation i of the pool.
+// Elevation i of the pool. Elevations and headings share sample_at; one type for both would lose the names and units of what they hold.
 pub fn elev_at(elevs: &[f64], i: usize) -> Elev
     ensures { elev_of result ≡ sample_at elevs.now i }
 {

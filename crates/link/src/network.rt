@@ -77,28 +77,6 @@ pub fn link_follows(prev: u32, link: LinkNumbers) -> bool
     (link.idx_prev == prev) | (link.idx_prev_alt == prev)
 }
 
-// Whether the ranges of elevations, headings and power limits lie inside their pools.
-pub fn in_pools(
-    elevs: &[f64],
-    headings: &[f64],
-    powers: &[f64],
-    districts: &[u32],
-    n: LinkNumbers,
-) -> bool
-    ensures { result ≡ in_pools elevs.now headings.now powers.now districts.now n }
-{
-    if elevs.len() / 2 < (n.elevs_first as usize) + (n.elevs_count as usize) {
-        return false;
-    }
-    if headings.len() / 2 < (n.headings_first as usize) + (n.headings_count as usize) {
-        return false;
-    }
-    if powers.len() / 3 < (n.powers_first as usize) + (n.powers_count as usize) {
-        return false;
-    }
-    (n.powers_first as usize) + (n.powers_count as usize) <= districts.len()
-}
-
 impl Network<'_> {
     // Whether the numbers, the length and the set places of link i lie in their columns.
     pub fn in_table(&self, i: usize) -> bool
@@ -123,8 +101,25 @@ impl Network<'_> {
         self.in_table(n as usize)
     }
 
+    // Whether the ranges of elevations, headings and power limits of a link with the numbers n lie inside their pools.
+    pub fn in_pools(&self, n: LinkNumbers) -> bool
+        ensures { result ≡ in_pools self.now.elevs.now self.now.headings.now self.now.powers.now self.now.districts.now n }
+    {
+        if self.elevs.len() / 2 < (n.elevs_first as usize) + (n.elevs_count as usize) {
+            return false;
+        }
+        if self.headings.len() / 2 < (n.headings_first as usize) + (n.headings_count as usize) {
+            return false;
+        }
+        let powers_end = (n.powers_first as usize) + (n.powers_count as usize);
+        if self.powers.len() / 3 < powers_end {
+            return false;
+        }
+        powers_end <= self.districts.len()
+    }
+
     // Question 6 of place p of link i; where no set is present only the flag is read.
-    fn place_formed(&self, i: usize, p: usize) -> bool
+    pub fn place_formed(&self, i: usize, p: usize) -> bool
         requires i_bound { i < 2 ^ 40 }
         requires p_bound { p < 8 }
         ensures { result ≡ set_formed self.now.codes.now self.now.values.now self.now.limits.now (set_at self.now.sets.now i p) }
@@ -157,7 +152,7 @@ impl Network<'_> {
         if l.idx_curr != n {
             return false;
         }
-        if !in_pools(self.elevs, self.headings, self.powers, self.districts, l) {
+        if !self.in_pools(l) {
             return false;
         }
         let length = column::get(self.lengths, i);

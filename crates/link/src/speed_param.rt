@@ -46,7 +46,7 @@ fn by_code(
     }
 }
 
-// The train's figure on the left.
+// The train's figure on the left. One function over both types would state the orders by `partial_cmp`, a step further from R26's comparisons.
 fn compares_float(code: u32, figure: f64, limit: f64) -> bool
     ensures { result ≡ compares_float code figure limit }
 {

@@ -1,5 +1,5 @@
 -- `rise_to`: from sample i on, with the answer so far, the answer is that from the first on.
-use Rattle.std.proofs.Common.{◌≡◌, ◌-◌, ◌≤◌, ◌&&◌}
+use Rattle.std.proofs.Common.{◌≡◌, ◌≤◌, ◌&&◌}
 use Rattle.link.specs.Table.{sample_at}
 use Rattle.link.proofs.Formed.{rising_from}
 use Rattle.link.proofs.elev.rise_to.Given as goal

@@ -1,7 +1,7 @@
 -- `question5`: from k on, after the link `before`, the first no is that of the whole list.
-use Rattle.std.proofs.Common.{◌≡◌, true, false, length, sym, ◌∙◌}
+use Rattle.std.proofs.Common.{false, length, sym, ◌∙◌}
 use native.Mathlib.Nat.{sub-zero}
-use Rattle.link.specs.Questions.{number_at, follows_last, question5}
+use Rattle.link.specs.Questions.{number_at, question5}
 use Rattle.link.proofs.Judging.{follow-pass, follow-fail, follow-end}
 use Rattle.link.proofs.questions.question5.Goals as goal
 use Rattle.link.proofs.questions.question5.Goals.{in-Some+else-not-link_follows, in_default}

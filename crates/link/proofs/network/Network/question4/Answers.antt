@@ -1,5 +1,5 @@
 -- `question4`: the first position that the search finds is the first no.
-use Rattle.std.proofs.Common.{◌≡◌, ℕ, true, false, arith, rules, tests}
+use Rattle.std.proofs.Common.{◌≡◌, true, false, arith, rules, tests}
 use Rattle.std.proofs.lemmas.Iterator.{first_from_Range}
 use Rattle.link.specs.Questions.{real_in, number_at, question4}
 use Rattle.link.proofs.Loops.{first-found}

@@ -1,5 +1,5 @@
 -- `question6`: the first position that the search finds is the first no.
-use Rattle.std.proofs.Common.{◌≡◌, ℕ, true, false, arith, rules, tests}
+use Rattle.std.proofs.Common.{◌≡◌, true, false, arith, rules, tests}
 use Rattle.std.proofs.lemmas.Iterator.{first_from_Range}
 use Rattle.link.specs.Table.{table}
 use Rattle.link.specs.Questions.{well_formed, number_at, question6}
