@@ -6,7 +6,7 @@ use crate::lines::call_name;
 use crate::outcomes::{refusal, refused_by};
 use crate::places::{link_named, place_named, type_named};
 use answer::Answer;
-use link::network::link_numbers;
+use link::network::{Network, link_numbers};
 use link::train_params::{TrainParams, TrainType};
 use path::path_tpc::PathTpc;
 use route::kinds::Call;
@@ -217,10 +217,19 @@ fn link_wrong(
     }
     link_named(err, text, n);
     if a.number == 6 {
-        let clause = clause_of(
-            links, lengths, sets, elevs, headings, limits, codes, values, powers, districts, n,
-        );
-        clause_named(err, clause);
+        let network = Network {
+            links,
+            lengths,
+            sets,
+            elevs,
+            headings,
+            limits,
+            codes,
+            values,
+            powers,
+            districts,
+        };
+        clause_named(err, clause_of(&network, n));
         return;
     }
     let sort = train.train_type;

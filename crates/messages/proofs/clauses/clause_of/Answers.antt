@@ -1,7 +1,7 @@
 -- `clause_of`: clause by clause, with what is left to ask after each yes.
 use Rattle.std.proofs.Common.{sym, refl, ◌∙◌, arith, eq-eqb, ne_eqb}
 use Rattle.ieee.proofs.Same.{zero-literal}
-use Rattle.link.specs.Table.{table_of}
+use Rattle.link.specs.Table.{table}
 use Rattle.link.proofs.Judging.{said-no, said-yes}
 use Rattle.link.proofs.Known.{pools-known}
 use Rattle.messages.proofs.ClauseSteps.{length-asked, clauses-asked}
@@ -13,14 +13,14 @@ pub returns-then-l-n : goal.returns-then-l-n
 returns-then-l-n c =
     let a = c.args in
     let l = c.link_numbers-l in
-    let t = table_of a.links.now a.lengths.now a.sets.now a.elevs.now a.headings.now a.limits.now a.codes.now a.values.now a.powers.now a.districts.now in
+    let t = table a.network.now in
     sym (clauses-asked _ t a.n l.result l.ensures refl ∙ rw (ne_eqb l.result.idx_curr a.n c.if-l-n.true))
 
 pub returns-then-not-in_pools : goal.returns-then-not-in_pools
 returns-then-not-in_pools c =
     let a = c.args in
     let l = c.link_numbers-l in
-    let t = table_of a.links.now a.lengths.now a.sets.now a.elevs.now a.headings.now a.limits.now a.codes.now a.values.now a.powers.now a.districts.now in
+    let t = table a.network.now in
     let place = eq-eqb l.result.idx_curr a.n c.if-l-n.false in
     sym (clauses-asked _ t a.n l.result l.ensures refl ∙ rw (place, said-no c.in_pools.ensures (ap not c.if-not-in_pools.true)))
 
@@ -28,7 +28,7 @@ pub returns-then-not-is_finite-length : goal.returns-then-not-is_finite-length
 returns-then-not-is_finite-length c =
     let a = c.args in
     let l = c.link_numbers-l in
-    let t = table_of a.links.now a.lengths.now a.sets.now a.elevs.now a.headings.now a.limits.now a.codes.now a.values.now a.powers.now a.districts.now in
+    let t = table a.network.now in
     let place = eq-eqb l.result.idx_curr a.n c.if-l-n.false in
     let pools = said-yes c.in_pools.ensures (ap not c.if-not-in_pools.false) in
     sym (clauses-asked c.get-length.result t a.n l.result l.ensures c.get-length.ensures ∙ rw (place, pools, said-no (length-asked c.get-length.result c.is_finite.ensures zero-literal) (ap not c.if-not-is_finite-length.true)))
@@ -37,7 +37,7 @@ pub returns-then-not-samples_formed : goal.returns-then-not-samples_formed
 returns-then-not-samples_formed c =
     let a = c.args in
     let l = c.link_numbers-l in
-    let t = table_of a.links.now a.lengths.now a.sets.now a.elevs.now a.headings.now a.limits.now a.codes.now a.values.now a.powers.now a.districts.now in
+    let t = table a.network.now in
     let place = eq-eqb l.result.idx_curr a.n c.if-l-n.false in
     let pools = said-yes c.in_pools.ensures (ap not c.if-not-in_pools.false) in
     let long = said-yes (length-asked c.get-length.result c.is_finite.ensures zero-literal) (ap not c.if-not-is_finite-length.false) in
@@ -47,7 +47,7 @@ pub returns-then-not-samples_formed-2 : goal.returns-then-not-samples_formed-2
 returns-then-not-samples_formed-2 c =
     let a = c.args in
     let l = c.link_numbers-l in
-    let t = table_of a.links.now a.lengths.now a.sets.now a.elevs.now a.headings.now a.limits.now a.codes.now a.values.now a.powers.now a.districts.now in
+    let t = table a.network.now in
     let place = eq-eqb l.result.idx_curr a.n c.if-l-n.false in
     let pools = said-yes c.in_pools.ensures (ap not c.if-not-in_pools.false) in
     let long = said-yes (length-asked c.get-length.result c.is_finite.ensures zero-literal) (ap not c.if-not-is_finite-length.false) in
@@ -58,7 +58,7 @@ pub returns-then-not-limits_formed : goal.returns-then-not-limits_formed
 returns-then-not-limits_formed c =
     let a = c.args in
     let l = c.link_numbers-l in
-    let t = table_of a.links.now a.lengths.now a.sets.now a.elevs.now a.headings.now a.limits.now a.codes.now a.values.now a.powers.now a.districts.now in
+    let t = table a.network.now in
     let place = eq-eqb l.result.idx_curr a.n c.if-l-n.false in
     let pools = said-yes c.in_pools.ensures (ap not c.if-not-in_pools.false) in
     let long = said-yes (length-asked c.get-length.result c.is_finite.ensures zero-literal) (ap not c.if-not-is_finite-length.false) in
@@ -79,7 +79,7 @@ pub returns : goal.returns
 returns c =
     let a = c.args in
     let l = c.link_numbers-l in
-    let t = table_of a.links.now a.lengths.now a.sets.now a.elevs.now a.headings.now a.limits.now a.codes.now a.values.now a.powers.now a.districts.now in
+    let t = table a.network.now in
     let place = eq-eqb l.result.idx_curr a.n c.if-l-n.false in
     let pools = said-yes c.in_pools.ensures (ap not c.if-not-in_pools.false) in
     let long = said-yes (length-asked c.get-length.result c.is_finite.ensures zero-literal) (ap not c.if-not-is_finite-length.false) in

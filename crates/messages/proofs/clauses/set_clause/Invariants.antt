@@ -4,7 +4,6 @@ use Rattle.messages.specs.Clauses.{set_clause}
 use Rattle.messages.proofs.clauses.set_clause.Given as goal
 
 abbrev pub invariant-loop-p : goal.invariant-loop-p
-invariant-loop-p l = set_clause l.sets l.codes l.values l.limits l.n l.p (8 - l.p) ≡ set_clause l.sets l.codes l.values l.limits l.n 0 8
-
-abbrev pub decreases-loop-p : goal.decreases-loop-p
-decreases-loop-p l = 8 - l.p
+invariant-loop-p l =
+    set_clause l.network.sets.now l.network.codes.now l.network.values.now l.network.limits.now l.n l.p (8 - l.p)
+    ≡ set_clause l.network.sets.now l.network.codes.now l.network.values.now l.network.limits.now l.n 0 8
