@@ -34,17 +34,7 @@ pub fn whole_at(text: &[u8], at: usize, k: usize) -> Option<u32>
 pub fn is_word(a: &[u8], b: &[u8]) -> bool
     ensures { result ≡ spec.same a.now b.now }
 {
-    if a.len() != b.len() {
-        return false;
-    }
-    let mut i = 0;
-    while i < a.len() {
-        if a[i] != b[i] {
-            return false;
-        }
-        i += 1;
-    }
-    true
+    a == b
 }
 
 // The number that a field is known to be; 0 otherwise.

@@ -50,10 +50,8 @@ pub fn field(text: &[u8], at: usize, k: usize) -> Span
     ensures { result ≡ spec.field text.now at k }
 {
     let mut s = field_from(text, at);
-    let mut i = 0;
-    while i < k {
+    for _ in 0..k {
         s = field_from(text, s.to);
-        i += 1;
     }
     s
 }
@@ -78,12 +76,10 @@ pub fn next_line(text: &[u8], at: usize) -> usize
     requires { at < length text.now }
     ensures { (result ≡ spec.next_line text.now at) × (at < result) }
 {
-    let mut i = at;
-    while i < text.len() {
+    for i in at..text.len() {
         if text[i] == 10 {
             return i + 1;
         }
-        i += 1;
     }
-    i
+    text.len()
 }

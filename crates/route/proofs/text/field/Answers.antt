@@ -1,18 +1,17 @@
--- `field`: s is field i.
-use mathlib.Core.Path.{◌≡◌}
-use native.Mathlib.Omega.{arith}
+-- `field`: s is the field reached by so many steps.
+use Rattle.std.proofs.Common.{◌≡◌, ap, ◌∙◌, arith}
 use Rattle.route.specs.Text.{field}
 use Rattle.route.proofs.Places.{field_next}
 use Rattle.route.proofs.text.field.Goals as goal
 
-pub loop-i-init : goal.loop-i-init
+pub loop-init : goal.loop-init
 unfolding field
-loop-i-init c = (c.field_from-s.ensures, omega arith)
+loop-init c = c.field_from-s.ensures
 
-pub loop-i-preserved : goal.loop-i-preserved
-loop-i-preserved c = (field_next c.args.text.now c.args.at c.loop-i.i c.loop-i.s c.field_from-s-in-loop-i.result c.loop-i.invariant.0 c.field_from-s-in-loop-i.ensures, omega arith)
+pub loop-preserved : goal.loop-preserved
+loop-preserved c = field_next c.args.text.now c.args.at c.loop.counter c.loop.s c.field_from-s-in-loop.result c.loop.invariant c.field_from-s-in-loop.ensures
 
 pub returns : goal.returns
 returns c =
-    let e : c.loop-i.i ≡ c.args.k = omega arith in
-    cc
+    let e : c.loop.counter ≡ c.args.k = omega arith in
+    c.loop.invariant ∙ ap (field c.args.text.now c.args.at) e

@@ -1,11 +1,7 @@
--- `field`: s is field i.
-use Prim.Native.Nat.{◌-◌, ◌≤◌}
-use mathlib.Core.Path.{◌≡◌}
+-- `field`: s is the field reached by so many steps.
+use Rattle.std.proofs.Common.{◌≡◌}
 use Rattle.route.specs.Text.{field}
 use Rattle.route.proofs.text.field.Given as goal
 
-abbrev pub invariant-loop-i : goal.invariant-loop-i
-invariant-loop-i l = (l.s ≡ field l.text l.at l.i) × (l.i ≤ l.k)
-
-abbrev pub decreases-loop-i : goal.decreases-loop-i
-decreases-loop-i l = l.k - l.i
+abbrev pub invariant-loop : goal.invariant-loop
+invariant-loop l = l.s ≡ field l.text l.at l.counter
