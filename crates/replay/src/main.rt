@@ -1,110 +1,88 @@
-// Replays stored calls: standard input has them, and what the port answers is printed beside the name of each.
+// Replays stored calls: standard input has them, one a line, and what the port answers is printed beside the name of each.
 #![tactic(auto)]
 
-mod words; // the numbers of a text
-mod table; // columns, trains, positions and directions read from the numbers
-mod columns; // the columns of a path
-mod print; // an answer, and a path's lists
-mod path_calls; // the calls on a path
-mod list_calls; // searches, Point and Strap
+mod words; // the numbers of a line, and what they stand for
+mod call; // the calls by their codes
+mod table; // the link table
+mod print; // numbers and answers as they are printed
+mod paths; // the path and the calls on it
+mod session; // what later calls are made on, and the calls on a list
 
-ghost use Rattle.std.specs.Prelude.{◌<◌};
+use call::{Call, Read};
+use print::Reply;
+use session::Session;
+use std::alloc::Global;
+use std::io;
 
-use columns::{Curves, Districts, Grades, Numbers, Offsets, Powers, Speeds};
-use path::path_tpc::PathTpc;
+// What is told at the point.
+fn point_values(rt: &impl Print, s: &Session) -> io::Result<()> {
+    println!(rt; "Point::res_coeff_front{}", s.point_coeff())?;
+    println!(rt; "Point::res_net_front{}", s.point_net())
+}
 
-// A path without records.
-fn no_path() -> PathTpc {
-    PathTpc {
-        link_count: 0,
-        grade_count: 0,
-        curve_count: 0,
-        speed_count: 0,
-        power_count: 0,
-        is_finished: false,
+// What is told at the strap.
+fn strap_values(rt: &impl Print, s: &Session) -> io::Result<()> {
+    println!(rt; "Strap::res_coeff_front{}", s.strap_coeff_front())?;
+    println!(rt; "Strap::res_coeff_back{}", s.strap_coeff_back())?;
+    println!(rt; "Strap::res_net_front{}", s.strap_net_front())?;
+    println!(rt; "Strap::res_net_back{}", s.strap_net_back())
+}
+
+// What a call that reads the path answers.
+fn read(s: &Session, r: Read, args: &[u64]) -> Reply {
+    let k = words::entry(args, 0) as usize;
+    match r {
+        Read::Position => s.path.position(s.state),
+        Read::Grades => s.path.link_range(k, false),
+        Read::Curves => s.path.link_range(k, true),
     }
 }
 
-// Where the call after the one at pos begins, among n words.
-fn after(w: &[u64], pos: usize, n: usize) -> usize
-    requires { pos < n }
-    ensures { pos < result }
-{
-    let k = words::count_at(w, pos + 1);
-    let left = n - pos;
-    if left < 2 {
-        return n;
+// One call, with the numbers of its line.
+fn one(
+    rt: &impl Print,
+    alloc: Global,
+    s: &mut Session,
+    call: Call,
+    args: &[u64],
+) -> io::Result<()> {
+    match call {
+        Call::Set(what) => s.set(alloc, what, args)?,
+        Call::Change(c) => {
+            let r = s.change(alloc, c, args)?;
+            println!(rt; "{}{r}\n{}", c.name(), s.path)?;
+        }
+        Call::Clear => {
+            let r = s.path.clear(words::float_at(args, 0));
+            println!(rt; "clear{r}\n{}", s.path)?;
+        }
+        Call::Read(r) => println!(rt; "{}{}", r.name(), read(&*s, r, args))?,
+        Call::Search(c) => {
+            let r = s.search(c, args);
+            println!(rt; "{}{r}", c.name())?;
+        }
+        Call::PointValues => point_values(rt, &*s)?,
+        Call::StrapValues => strap_values(rt, &*s)?,
     }
-    if left - 2 < k {
-        return n;
-    }
-    pos + 2 + k
+    Ok(())
 }
 
-// One call after another, up to word n. The columns are those of the path.
-fn replay(
-    w: &[u64],
-    n: usize,
-    offsets: &mut Offsets,
-    numbers: &mut Numbers,
-    grades: &mut Grades,
-    curves: &mut Curves,
-    speeds: &mut Speeds,
-    powers: &mut Powers,
-    districts: &mut Districts,
-) {
-    let mut s = list_calls::start();
-    let mut p = no_path();
-    let mut pos = 0;
-    while pos < n {
-        let code = words::word(w, pos);
-        let at = pos + 1;
-        let next = after(w, pos, n);
-        p = path_calls::path_call(
-            w,
-            code,
-            at,
-            s,
-            p,
-            &mut *offsets,
-            &mut *numbers,
-            &mut *grades,
-            &mut *curves,
-            &mut *speeds,
-            &mut *powers,
-            &mut *districts,
-        );
-        s = list_calls::list_call(w, code, at, s);
-        pos = next;
+// One call after another.
+fn replay(rt: &impl Print, alloc: Global, text: &str) -> io::Result<()> {
+    let mut s = Session::new(alloc);
+    for line in text.lines() {
+        let all = words::words(alloc, line)?;
+        if let [code, _, args @ ..] = all.as_slice() {
+            if let Some(call) = call::of_code(*code) {
+                one(rt, alloc, &mut s, call, args)?;
+            }
+        }
     }
+    Ok(())
 }
 
-// The calls in w.
-fn with_columns(w: &[u64], n: usize) {
-    let mut offsets = [0.0f64; 48];
-    let mut numbers = [0u32; 192];
-    let mut grades = [0.0f64; 480];
-    let mut curves = [0.0f64; 480];
-    let mut speeds = [0.0f64; 320];
-    let mut powers = [0.0f64; 192];
-    let mut districts = [0u32; 64];
-    replay(
-        w,
-        n,
-        &mut offsets,
-        &mut numbers,
-        &mut grades,
-        &mut curves,
-        &mut speeds,
-        &mut powers,
-        &mut districts,
-    );
-}
-
-fn main() {
-    let mut text = [0u8; 400000];
-    let got = io::read_full(show::STDIN_FILENO, &mut text);
-    let mut w = [0u64; 100000];
-    let n = words::words_of(&text, got, &mut w);
-    with_columns(&w, n);
+fn main(rt: HostRuntime) -> io::Result<()> {
+    let alloc = rt.alloc();
+    let text = io::read_to_string(alloc, rt.reader())?;
+    replay(&rt, alloc, &text)
 }

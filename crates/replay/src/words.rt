@@ -1,148 +1,102 @@
-// The numbers of a text: hexadecimal, apart by blanks or line ends; from # to the line's end is a comment.
-ghost use Rattle.std.specs.Prelude.{◌≤◌};
+// The numbers of a line, hexadecimal and apart by blanks, from # on a comment; and what they stand for: numbers, trains, positions and directions.
+use link::train_params::{TrainParams, TrainType};
+use lookup::lin_search_hint::Dir;
+use si::{Force, Length, Mass, Ratio, Velocity};
+use std::alloc::{AllocError, Global};
+use std::io;
+use train::train_state::TrainState;
 
-// The value of a digit; 16 for any other byte, and in a comment.
-fn digit(b: u8, comment: bool) -> u64 {
-    if comment {
-        return 16;
-    }
-    if b < 48 {
-        return 16;
-    }
-    if b < 58 {
-        return (b - 48) as u64;
-    }
-    if b < 97 {
-        return 16;
-    }
-    if b < 103 {
-        return (b - 87) as u64;
-    }
-    16
+fn word(w: &str) -> io::Result<u64> {
+    u64::from_str_radix(w, 16).map_err(|_| io::Error::from(io::ErrorKind::InvalidData))
 }
 
-// Byte i; a line end past the text.
-fn byte(text: &[u8], i: usize) -> u8 {
-    if i < text.len() {
-        return text[i];
-    }
-    10
+// The numbers of a line.
+pub fn words(alloc: Global, line: &str) -> io::Result<Vec<u64>> {
+    let text = line.split_once('#').map_or(line, |(before, _)| before);
+    text.split_ascii_whitespace()
+        .map(|w| word(w))
+        .try_collect(alloc)
 }
 
-// Word i; 0 past the end.
-pub fn word(w: &[u64], i: usize) -> u64 {
-    if i < w.len() {
-        return w[i];
+// The f64 of its bits; every NaN is the same.
+fn float_of(bits: u64) -> f64 {
+    if 0x7ff0_0000_0000_0000 < bits % 0x8000_0000_0000_0000 {
+        return f64::NAN;
     }
-    0
+    f64::from_bits(bits)
 }
 
-// One more digit behind those of word i.
-fn put_digit(w: &mut [u64], i: usize, d: u64) {
-    if i < w.len() {
-        w[i] = (w[i] << 4) | d;
+// A number of 32 bits; the largest where the word has more.
+fn number_of(word: u64) -> u32 {
+    u32::try_from(word).unwrap_or(u32::MAX)
+}
+
+// Entry i; 0 where there is none.
+pub fn entry(args: &[u64], i: usize) -> u64 {
+    args.get(i).copied().unwrap_or(0)
+}
+
+pub fn float_at(args: &[u64], i: usize) -> f64 {
+    float_of(entry(args, i))
+}
+
+fn number_at(args: &[u64], i: usize) -> u32 {
+    number_of(entry(args, i))
+}
+
+// Each number as an f64, and as one of 32 bits.
+pub fn floats(alloc: Global, args: &[u64]) -> Result<Vec<f64>, AllocError> {
+    args.iter().map(|w| Ok(float_of(*w))).try_collect(alloc)
+}
+
+pub fn numbers(alloc: Global, args: &[u64]) -> Result<Vec<u32>, AllocError> {
+    args.iter().map(|w| Ok(number_of(*w))).try_collect(alloc)
+}
+
+fn type_of(code: u32) -> TrainType {
+    match code {
+        1 => TrainType::Freight,
+        2 => TrainType::Passenger,
+        3 => TrainType::Intermodal,
+        4 => TrainType::HighSpeedPassenger,
+        5 => TrainType::TiltTrain,
+        6 => TrainType::Commuter,
+        _ => TrainType::None,
     }
 }
 
-// The same for the last of k words; nothing where d is no digit.
-fn put_last(w: &mut [u64], k: usize, d: u64) {
-    if 15 < d {
-        return;
+pub fn train(args: &[u64]) -> TrainParams {
+    TrainParams {
+        length: Length(float_at(args, 0)),
+        speed_max: Velocity(float_at(args, 1)),
+        towed_mass_static: Mass(float_at(args, 2)),
+        mass_per_brake: Mass(float_at(args, 3)),
+        axle_count: number_at(args, 7),
+        train_type: type_of(number_at(args, 8)),
+        curve_coeff_0: Ratio(float_at(args, 4)),
+        curve_coeff_1: Ratio(float_at(args, 5)),
+        curve_coeff_2: Ratio(float_at(args, 6)),
     }
-    if k == 0 {
-        return;
-    }
-    put_digit(&mut *w, k - 1, d);
 }
 
-// 1 where a word begins with d, which it does not behind another digit; 0 elsewhere.
-fn begins(d: u64, behind_digit: bool) -> usize
-    ensures { result ≤ 1 }
-{
-    if behind_digit {
-        return 0;
+// A position, not yet placed on a link.
+pub fn state(args: &[u64]) -> TrainState {
+    TrainState {
+        offset: Length(float_at(args, 0)),
+        offset_back: Length(float_at(args, 1)),
+        length: Length(float_at(args, 2)),
+        weight_static: Force(float_at(args, 3)),
+        link_idx_front: 0,
+        link_idx_back: 0,
+        offset_in_link: Length(0.0),
     }
-    if 15 < d {
-        return 0;
-    }
-    1
 }
 
-// Whether the byte b stands in a comment, given whether the one before it does.
-fn in_comment(b: u8, before: bool) -> bool {
-    if b == 35 {
-        return true;
+// The direction of a code: 1 Fwd, 2 Bwd, any other Unk.
+pub fn dir(code: u64) -> Dir {
+    match code {
+        1 => Dir::Fwd,
+        2 => Dir::Bwd,
+        _ => Dir::Unk,
     }
-    if b == 10 {
-        return false;
-    }
-    before
-}
-
-// The words of the first n bytes of a text into w, which is zero; how many there are.
-pub fn words_of(text: &[u8], n: usize, w: &mut [u64]) -> usize {
-    let mut k = 0;
-    let mut behind_digit = false;
-    let mut comment = false;
-    let mut i = 0;
-    while i < n {
-        let b = byte(text, i);
-        comment = in_comment(b, comment);
-        let d = digit(b, comment);
-        k += begins(d, behind_digit);
-        put_last(&mut *w, k, d);
-        behind_digit = d < 16;
-        i += 1;
-    }
-    k
-}
-
-// Word i as a count.
-pub fn count_at(w: &[u64], i: usize) -> usize {
-    word(w, i) as usize
-}
-
-// A column in the words is its length, at `at`, and its entries behind that. Entry i; 0 where there is none.
-pub fn entry(w: &[u64], at: usize, i: usize) -> u64 {
-    if w.len() <= at {
-        return 0;
-    }
-    if w.len() - at <= i {
-        return 0;
-    }
-    if count_at(w, at) <= i {
-        return 0;
-    }
-    word(w, at + i + 1)
-}
-
-// How many entries the column at `at` has, and at most `most`.
-pub fn held(w: &[u64], at: usize, most: usize) -> usize
-    ensures { result ≤ most }
-{
-    let n = count_at(w, at);
-    if n < most {
-        return n;
-    }
-    most
-}
-
-// Where the first of the columns begins that the column at `at` holds.
-pub fn inside(w: &[u64], at: usize) -> usize {
-    if w.len() <= at {
-        return at;
-    }
-    at + 1
-}
-
-// Where the column behind the one at `at` begins.
-pub fn next_column(w: &[u64], at: usize) -> usize {
-    let n = count_at(w, at);
-    if w.len() <= at {
-        return at;
-    }
-    if w.len() - at <= n {
-        return at;
-    }
-    at + n + 1
 }

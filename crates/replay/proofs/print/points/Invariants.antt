@@ -1,9 +1,0 @@
--- `points`: one link point a turn.
-use Prim.Native.Nat.{◌-◌}
-use Rattle.replay.proofs.print.points.Given as goal
-
-abbrev pub invariant-loop-i : goal.invariant-loop-i
-invariant-loop-i l = Unit {0}
-
-abbrev pub decreases-loop-i : goal.decreases-loop-i
-decreases-loop-i l = l.n - l.i

@@ -1,7 +1,0 @@
--- `cut_numbers`: the part is as long as asked.
-use native.Mathlib.Omega.{arith}
-use lib.ListN.{length-take}
-use Rattle.replay.proofs.table.cut_numbers.Goals as goal
-
-pub slice_bounds-result-end : goal.slice_bounds-result-end
-slice_bounds-result-end c = simp length-take (omega arith)
