@@ -13,6 +13,7 @@ use path::questions::asked;
 use resistance::listed::{CoeffAnswer, NetAnswer, Searched};
 use resistance::point::{Point, PointAnswer, PointRes};
 use resistance::strap::{Strap, StrapAnswer, StrapRes};
+use resistance::walk::walk;
 use si::{Force, Length};
 use train::train_state::TrainState;
 
@@ -41,7 +42,8 @@ pub extern "C" fn mochaspit_calc_idx(
 pub extern "C" fn mochaspit_point_new(col: &[f64], n: usize, state: TrainState) -> PointAnswer
     ensures { result ≡ points.new_of state n col.now }
 {
-    resistance::point::new(col, n, state)
+    let before = Point { idx: 0 };
+    PointAnswer::told(before, Point::new(col, n, state))
 }
 
 // `Point::calc_res`.
@@ -56,7 +58,7 @@ pub extern "C" fn mochaspit_point_calc_res(
     ensures { result ≡ directed (dir_of dir) (λ d. points.calc_res_of d point state n col.now) (points.refused_res (ask 1 false) point) }
 {
     match dir_of(dir) {
-        DirCode::Known(d) => resistance::point::calc_res(point, col, n, state, d),
+        DirCode::Known(d) => PointRes::told(point, point.calc_res(col, n, state, d)),
         DirCode::Unknown => PointRes {
             answer: asked(1, false),
             point,
@@ -74,7 +76,7 @@ pub extern "C" fn mochaspit_point_res_coeff_front(
 ) -> CoeffAnswer
     ensures { result ≡ res_coeff_of point.idx n col.now }
 {
-    resistance::point::res_coeff_front(point, col, n)
+    CoeffAnswer::from(point.res_coeff_front(col, n))
 }
 
 // `Point::res_net_front`.
@@ -87,7 +89,7 @@ pub extern "C" fn mochaspit_point_res_net_front(
 ) -> NetAnswer
     ensures { result ≡ res_net_of point.idx state.offset.0 state n col.now }
 {
-    resistance::point::res_net_front(point, col, n, state)
+    NetAnswer::from(point.res_net_front(col, n, state))
 }
 
 // `Point::path_tpc_idx_front`.
@@ -95,7 +97,7 @@ pub extern "C" fn mochaspit_point_res_net_front(
 pub extern "C" fn mochaspit_point_path_tpc_idx_front(point: Point) -> usize
     ensures { result ≡ point.idx }
 {
-    resistance::point::path_tpc_idx_front(point)
+    point.path_tpc_idx_front()
 }
 
 // `Point::fix_cache`.
@@ -103,7 +105,7 @@ pub extern "C" fn mochaspit_point_path_tpc_idx_front(point: Point) -> usize
 pub extern "C" fn mochaspit_point_fix_cache(point: Point, sub: usize) -> PointAnswer
     ensures { result ≡ points.fix_cache point sub }
 {
-    resistance::point::fix_cache(point, sub)
+    PointAnswer::told(point, point.fix_cache(sub))
 }
 
 // `Strap::new`.
@@ -111,7 +113,11 @@ pub extern "C" fn mochaspit_point_fix_cache(point: Point, sub: usize) -> PointAn
 pub extern "C" fn mochaspit_strap_new(col: &[f64], n: usize, state: TrainState) -> StrapAnswer
     ensures { result ≡ straps.new_of state n col.now }
 {
-    resistance::strap::new(col, n, state)
+    let before = Strap {
+        idx_front: 0,
+        idx_back: 0,
+    };
+    StrapAnswer::told(before, Strap::new(col, n, state))
 }
 
 // `Strap::calc_res`.
@@ -126,7 +132,7 @@ pub extern "C" fn mochaspit_strap_calc_res(
     ensures { result ≡ directed (dir_of dir) (λ d. straps.calc_res_of d strap state n col.now) (straps.refused_res (ask 1 false) strap) }
 {
     match dir_of(dir) {
-        DirCode::Known(d) => resistance::strap::calc_res(strap, col, n, state, d),
+        DirCode::Known(d) => StrapRes::told(strap, strap.calc_res(col, n, state, d)),
         DirCode::Unknown => StrapRes {
             answer: asked(1, false),
             strap,
@@ -149,7 +155,7 @@ pub extern "C" fn mochaspit_strap_walk(
     ensures { result ≡ directed (dir_of dir) (λ d. walk_of d step.0 count strap state n col.now) (straps.refused_res (ask 1 false) strap) }
 {
     match dir_of(dir) {
-        DirCode::Known(d) => resistance::walk::walk(strap, col, n, state, d, step, count),
+        DirCode::Known(d) => StrapRes::told(strap, walk(strap, col, n, state, d, step, count)),
         DirCode::Unknown => StrapRes {
             answer: asked(1, false),
             strap,
@@ -167,7 +173,7 @@ pub extern "C" fn mochaspit_strap_res_coeff_front(
 ) -> CoeffAnswer
     ensures { result ≡ res_coeff_of strap.idx_front n col.now }
 {
-    resistance::strap::res_coeff_front(strap, col, n)
+    CoeffAnswer::from(strap.res_coeff_front(col, n))
 }
 
 // `Strap::res_net_front`.
@@ -180,7 +186,7 @@ pub extern "C" fn mochaspit_strap_res_net_front(
 ) -> NetAnswer
     ensures { result ≡ res_net_of strap.idx_front state.offset.0 state n col.now }
 {
-    resistance::strap::res_net_front(strap, col, n, state)
+    NetAnswer::from(strap.res_net_front(col, n, state))
 }
 
 // `Strap::res_coeff_back`.
@@ -188,7 +194,7 @@ pub extern "C" fn mochaspit_strap_res_net_front(
 pub extern "C" fn mochaspit_strap_res_coeff_back(strap: Strap, col: &[f64], n: usize) -> CoeffAnswer
     ensures { result ≡ res_coeff_of strap.idx_back n col.now }
 {
-    resistance::strap::res_coeff_back(strap, col, n)
+    CoeffAnswer::from(strap.res_coeff_back(col, n))
 }
 
 // `Strap::res_net_back`.
@@ -201,7 +207,7 @@ pub extern "C" fn mochaspit_strap_res_net_back(
 ) -> NetAnswer
     ensures { result ≡ res_net_of strap.idx_back state.offset_back.0 state n col.now }
 {
-    resistance::strap::res_net_back(strap, col, n, state)
+    NetAnswer::from(strap.res_net_back(col, n, state))
 }
 
 // `Strap::path_tpc_idx_front`.
@@ -209,7 +215,7 @@ pub extern "C" fn mochaspit_strap_res_net_back(
 pub extern "C" fn mochaspit_strap_path_tpc_idx_front(strap: Strap) -> usize
     ensures { result ≡ strap.idx_front }
 {
-    resistance::strap::path_tpc_idx_front(strap)
+    strap.path_tpc_idx_front()
 }
 
 // `Strap::fix_cache`.
@@ -217,5 +223,5 @@ pub extern "C" fn mochaspit_strap_path_tpc_idx_front(strap: Strap) -> usize
 pub extern "C" fn mochaspit_strap_fix_cache(strap: Strap, sub: usize) -> StrapAnswer
     ensures { result ≡ straps.fix_cache strap sub }
 {
-    resistance::strap::fix_cache(strap, sub)
+    StrapAnswer::told(strap, strap.fix_cache(sub))
 }

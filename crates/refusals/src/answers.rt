@@ -7,7 +7,6 @@ use path_posted::posted_speed::PostedAnswer;
 use resistance::listed::{CoeffAnswer, NetAnswer, Searched};
 use resistance::point::{PointAnswer, PointRes};
 use resistance::strap::{StrapAnswer, StrapRes};
-use resistance::{point, strap};
 use show::Whole;
 use std::fmt;
 use train::set_link_and_offset::StateAnswer;
@@ -114,14 +113,14 @@ impl From<NetAnswer> for Reply {
 
 impl From<PointAnswer> for Reply {
     fn from(r: PointAnswer) -> Reply {
-        alone(r.answer).with_front(point::path_tpc_idx_front(r.point))
+        alone(r.answer).with_front(r.point.path_tpc_idx_front())
     }
 }
 
 impl From<PointRes> for Reply {
     fn from(r: PointRes) -> Reply {
         alone(r.answer)
-            .with_front(point::path_tpc_idx_front(r.point))
+            .with_front(r.point.path_tpc_idx_front())
             .with_value(r.res.0)
     }
 }
@@ -129,7 +128,7 @@ impl From<PointRes> for Reply {
 impl From<StrapAnswer> for Reply {
     fn from(r: StrapAnswer) -> Reply {
         alone(r.answer)
-            .with_front(strap::path_tpc_idx_front(r.strap))
+            .with_front(r.strap.path_tpc_idx_front())
             .with_back(r.strap.idx_back)
     }
 }
@@ -137,7 +136,7 @@ impl From<StrapAnswer> for Reply {
 impl From<StrapRes> for Reply {
     fn from(r: StrapRes) -> Reply {
         alone(r.answer)
-            .with_front(strap::path_tpc_idx_front(r.strap))
+            .with_front(r.strap.path_tpc_idx_front())
             .with_back(r.strap.idx_back)
             .with_value(r.res.0)
     }

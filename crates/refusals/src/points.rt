@@ -2,8 +2,8 @@
 use crate::answers::Reply;
 use crate::columns::Columns;
 use crate::fields::{Fault, count, dir, state};
-use resistance::point;
-use resistance::point::Point;
+use resistance::listed::{CoeffAnswer, NetAnswer};
+use resistance::point::{Point, PointAnswer, PointRes};
 
 // The point INDEX.
 fn point_at(w: &str) -> Result<Point, Fault> {
@@ -19,24 +19,29 @@ pub fn answer(columns: &Columns, call: &str, args: &[&str]) -> Result<Reply, Fau
     match (call, args) {
         ("Point::new", [list, records, train, front, back]) => {
             let (col, n) = columns.list(list, records)?;
-            Ok(Reply::from(point::new(col, n, state(columns, train, front, back)?)))
+            let made = Point::new(col, n, state(columns, train, front, back)?);
+            Ok(Reply::from(PointAnswer::told(Point { idx: 0 }, made)))
         }
         ("Point::calc_res", [list, records, train, front, back, idx, to]) => {
             let (col, n) = columns.list(list, records)?;
             let s = state(columns, train, front, back)?;
-            Ok(Reply::from(point::calc_res(point_at(idx)?, col, n, s, dir(to)?)))
+            let p = point_at(idx)?;
+            Ok(Reply::from(PointRes::told(p, p.calc_res(col, n, s, dir(to)?))))
         }
         ("Point::res_coeff_front", [list, records, idx]) => {
             let (col, n) = columns.list(list, records)?;
-            Ok(Reply::from(point::res_coeff_front(point_at(idx)?, col, n)))
+            let r = point_at(idx)?.res_coeff_front(col, n);
+            Ok(Reply::from(CoeffAnswer::from(r)))
         }
         ("Point::res_net_front", [list, records, train, front, back, idx]) => {
             let (col, n) = columns.list(list, records)?;
             let s = state(columns, train, front, back)?;
-            Ok(Reply::from(point::res_net_front(point_at(idx)?, col, n, s)))
+            let r = point_at(idx)?.res_net_front(col, n, s);
+            Ok(Reply::from(NetAnswer::from(r)))
         }
         ("Point::fix_cache", [idx, sub]) => {
-            Ok(Reply::from(point::fix_cache(point_at(idx)?, count(sub)?)))
+            let p = point_at(idx)?;
+            Ok(Reply::from(PointAnswer::told(p, p.fix_cache(count(sub)?))))
         }
         _ => Err(Fault::Unreadable),
     }

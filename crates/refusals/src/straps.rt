@@ -2,8 +2,8 @@
 use crate::answers::Reply;
 use crate::columns::Columns;
 use crate::fields::{Fault, count, dir, length, state};
-use resistance::strap;
-use resistance::strap::Strap;
+use resistance::listed::{CoeffAnswer, NetAnswer};
+use resistance::strap::{Strap, StrapAnswer, StrapRes};
 use resistance::walk::walk;
 use train::train_state::TrainState;
 
@@ -41,23 +41,34 @@ impl<'a> At<'a> {
 // Strap::res_net_front and Strap::res_net_back LIST RECORDS TRAIN FRONT BACK INDEX INDEX
 fn answer_at(at: At, call: &str, args: &[&str]) -> Result<Reply, Fault> {
     match (call, args) {
-        ("Strap::new", []) => Ok(Reply::from(strap::new(at.col, at.n, at.state))),
+        ("Strap::new", []) => {
+            let before = Strap {
+                idx_front: 0,
+                idx_back: 0,
+            };
+            let made = Strap::new(at.col, at.n, at.state);
+            Ok(Reply::from(StrapAnswer::told(before, made)))
+        }
         ("Strap::calc_res", [front, back, to]) => {
             let t = strap_at(front, back)?;
-            Ok(Reply::from(strap::calc_res(t, at.col, at.n, at.state, dir(to)?)))
+            let there = t.calc_res(at.col, at.n, at.state, dir(to)?);
+            Ok(Reply::from(StrapRes::told(t, there)))
         }
         ("walk", [front, back, to, step, positions]) => {
             let t = strap_at(front, back)?;
             let k = count(positions)?;
-            Ok(Reply::from(walk(t, at.col, at.n, at.state, dir(to)?, length(step)?, k)))
+            let walked = walk(t, at.col, at.n, at.state, dir(to)?, length(step)?, k);
+            Ok(Reply::from(StrapRes::told(t, walked)))
         }
         ("Strap::res_net_front", [front, back]) => {
             let t = strap_at(front, back)?;
-            Ok(Reply::from(strap::res_net_front(t, at.col, at.n, at.state)))
+            let r = t.res_net_front(at.col, at.n, at.state);
+            Ok(Reply::from(NetAnswer::from(r)))
         }
         ("Strap::res_net_back", [front, back]) => {
             let t = strap_at(front, back)?;
-            Ok(Reply::from(strap::res_net_back(t, at.col, at.n, at.state)))
+            let r = t.res_net_back(at.col, at.n, at.state);
+            Ok(Reply::from(NetAnswer::from(r)))
         }
         _ => Err(Fault::Unreadable),
     }
@@ -69,14 +80,17 @@ pub fn answer(columns: &Columns, call: &str, args: &[&str]) -> Result<Reply, Fau
     match (call, args) {
         ("Strap::res_coeff_front", [list, records, front, back]) => {
             let (col, n) = columns.list(list, records)?;
-            Ok(Reply::from(strap::res_coeff_front(strap_at(front, back)?, col, n)))
+            let r = strap_at(front, back)?.res_coeff_front(col, n);
+            Ok(Reply::from(CoeffAnswer::from(r)))
         }
         ("Strap::res_coeff_back", [list, records, front, back]) => {
             let (col, n) = columns.list(list, records)?;
-            Ok(Reply::from(strap::res_coeff_back(strap_at(front, back)?, col, n)))
+            let r = strap_at(front, back)?.res_coeff_back(col, n);
+            Ok(Reply::from(CoeffAnswer::from(r)))
         }
         ("Strap::fix_cache", [front, back, sub]) => {
-            Ok(Reply::from(strap::fix_cache(strap_at(front, back)?, count(sub)?)))
+            let t = strap_at(front, back)?;
+            Ok(Reply::from(StrapAnswer::told(t, t.fix_cache(count(sub)?))))
         }
         (_, [list, records, train, front, back, args @ ..]) => answer_at(
             At::read(columns, &[*list, *records, *train, *front, *back])?,

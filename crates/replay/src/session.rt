@@ -8,9 +8,8 @@ use crate::words::entry;
 use link::train_params::TrainParams;
 use lookup::calc_idx::calc_idx;
 use resistance::listed::{CoeffAnswer, NetAnswer, Searched};
-use resistance::point::{Point, PointAnswer};
-use resistance::strap::{Strap, StrapAnswer};
-use resistance::{point, strap};
+use resistance::point::{Point, PointAnswer, PointRes};
+use resistance::strap::{Strap, StrapAnswer, StrapRes};
 use si::Length;
 use std::alloc::{AllocError, Global};
 use train::train_state::TrainState;
@@ -35,11 +34,11 @@ fn net(r: NetAnswer) -> Reply {
 }
 
 fn point_told(r: PointAnswer) -> Reply {
-    Reply::new(r.answer).with_index(point::path_tpc_idx_front(r.point))
+    Reply::new(r.answer).with_index(r.point.path_tpc_idx_front())
 }
 
 fn strap_told(r: StrapAnswer) -> Reply {
-    Reply::new(r.answer).with_indices(strap::path_tpc_idx_front(r.strap), r.strap.idx_back)
+    Reply::new(r.answer).with_indices(r.strap.path_tpc_idx_front(), r.strap.idx_back)
 }
 
 impl Session {
@@ -113,7 +112,8 @@ impl Session {
     }
 
     fn point_new(&mut self) -> Reply {
-        let r = point::new(&self.list, self.records(), self.state);
+        let made = Point::new(&self.list, self.records(), self.state);
+        let r = PointAnswer::told(self.point, made);
         if r.answer.number == 0 {
             self.point = r.point;
         }
@@ -122,21 +122,24 @@ impl Session {
 
     fn point_res(&mut self, args: &[u64]) -> Reply {
         let dir = words::dir(entry(args, 0));
-        let r = point::calc_res(self.point, &self.list, self.records(), self.state, dir);
+        let force = self.point.calc_res(&self.list, self.records(), self.state, dir);
+        let r = PointRes::told(self.point, force);
         self.point = r.point;
         Reply::new(r.answer)
-            .with_index(point::path_tpc_idx_front(r.point))
+            .with_index(r.point.path_tpc_idx_front())
             .with_value(r.res.0)
     }
 
     fn point_fix(&mut self, args: &[u64]) -> Reply {
-        let r = point::fix_cache(self.point, entry(args, 0) as usize);
+        let fixed = self.point.fix_cache(entry(args, 0) as usize);
+        let r = PointAnswer::told(self.point, fixed);
         self.point = r.point;
         point_told(r)
     }
 
     fn strap_new(&mut self) -> Reply {
-        let r = strap::new(&self.list, self.records(), self.state);
+        let made = Strap::new(&self.list, self.records(), self.state);
+        let r = StrapAnswer::told(self.strap, made);
         if r.answer.number == 0 {
             self.strap = r.strap;
         }
@@ -145,40 +148,48 @@ impl Session {
 
     fn strap_res(&mut self, args: &[u64]) -> Reply {
         let dir = words::dir(entry(args, 0));
-        let r = strap::calc_res(self.strap, &self.list, self.records(), self.state, dir);
+        let force = self.strap.calc_res(&self.list, self.records(), self.state, dir);
+        let r = StrapRes::told(self.strap, force);
         self.strap = r.strap;
         Reply::new(r.answer)
-            .with_indices(strap::path_tpc_idx_front(r.strap), r.strap.idx_back)
+            .with_indices(r.strap.path_tpc_idx_front(), r.strap.idx_back)
             .with_value(r.res.0)
     }
 
     fn strap_fix(&mut self, args: &[u64]) -> Reply {
-        let r = strap::fix_cache(self.strap, entry(args, 0) as usize);
+        let fixed = self.strap.fix_cache(entry(args, 0) as usize);
+        let r = StrapAnswer::told(self.strap, fixed);
         self.strap = r.strap;
         strap_told(r)
     }
 
     pub fn point_coeff(&self) -> Reply {
-        coeff(point::res_coeff_front(self.point, &self.list, self.records()))
+        let r = self.point.res_coeff_front(&self.list, self.records());
+        coeff(CoeffAnswer::from(r))
     }
 
     pub fn point_net(&self) -> Reply {
-        net(point::res_net_front(self.point, &self.list, self.records(), self.state))
+        let r = self.point.res_net_front(&self.list, self.records(), self.state);
+        net(NetAnswer::from(r))
     }
 
     pub fn strap_coeff_front(&self) -> Reply {
-        coeff(strap::res_coeff_front(self.strap, &self.list, self.records()))
+        let r = self.strap.res_coeff_front(&self.list, self.records());
+        coeff(CoeffAnswer::from(r))
     }
 
     pub fn strap_coeff_back(&self) -> Reply {
-        coeff(strap::res_coeff_back(self.strap, &self.list, self.records()))
+        let r = self.strap.res_coeff_back(&self.list, self.records());
+        coeff(CoeffAnswer::from(r))
     }
 
     pub fn strap_net_front(&self) -> Reply {
-        net(strap::res_net_front(self.strap, &self.list, self.records(), self.state))
+        let r = self.strap.res_net_front(&self.list, self.records(), self.state);
+        net(NetAnswer::from(r))
     }
 
     pub fn strap_net_back(&self) -> Reply {
-        net(strap::res_net_back(self.strap, &self.list, self.records(), self.state))
+        let r = self.strap.res_net_back(&self.list, self.records(), self.state);
+        net(NetAnswer::from(r))
     }
 }

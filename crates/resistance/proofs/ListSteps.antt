@@ -12,7 +12,7 @@ use Rattle.ieee.specs.Number.{+0, ◌⊖◌, ◌⊗◌, all_finite}
 use Rattle.lookup.specs.declared.lin_search_hint.Dir.{Dir}
 use Rattle.lookup.specs.declared.path_res_coeff.PathResCoeff.{PathResCoeff}
 use Rattle.lookup.specs.Coeff.{coeffs, coeff_at, stands_at, coefficient_of, res_val, coeffs_finite}
-use Rattle.lookup.specs.CalcIdx.{Indexed, indexed, find_in, list_sound}
+use Rattle.lookup.specs.CalcIdx.{Indexed, find_in, list_sound}
 use Rattle.lookup.proofs.Coeffs.{value-way}
 use Rattle.lookup.proofs.SearchSteps.{sound-known}
 use Rattle.lookup.proofs.Place.{found_below}

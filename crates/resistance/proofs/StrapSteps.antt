@@ -24,11 +24,10 @@ use Rattle.train.specs.declared.train_state.TrainState.{TrainState}
 use Rattle.train.specs.Position.{front_of, back_of, length_of, weight_of, state_finite}
 use Rattle.resistance.specs.declared.listed.Searched.{Searched}
 use Rattle.resistance.specs.declared.strap.Strap.{Strap}
-use Rattle.resistance.specs.declared.strap.Moved.{Moved}
 use Rattle.resistance.specs.declared.strap.StrapAnswer.{StrapAnswer}
 use Rattle.resistance.specs.declared.strap.StrapRes.{StrapRes}
 use Rattle.resistance.specs.Listed.{list_answer, search, not_searched, value_steps}
-use Rattle.resistance.specs.Strap.{strap_of, front_idx, back_idx, answered, after_search, moved_to, not_moved, moved_ends, moved, front_value, back_value, calc_res_strap, res_at, res_steps, no_strap, new_known, refused_res, calc_res_known, new_of, calc_res_of, fix_cache}
+use Rattle.resistance.specs.Strap.{Moved, strap_of, front_idx, back_idx, answered, after_search, moved_to, not_moved, moved_ends, moved, front_value, back_value, calc_res_strap, res_at, res_steps, no_strap, new_known, refused_res, calc_res_known, new_of, calc_res_of, fix_cache}
 use Rattle.link.proofs.Known.{and_both}
 use Rattle.ieee.proofs.Finite.{sub-finite-l, sub-finite-r, mul-finite-l, div-finite-l}
 use Rattle.resistance.proofs.Answered.{one-no, one-yes, behind-no, behind-yes, both_first, both-second, both-done}

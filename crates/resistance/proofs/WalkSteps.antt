@@ -9,6 +9,8 @@ use borrow.Author.Tests.{eqb-true, eqb-false}
 use lib.Ieee.{Float}
 use lib.Ieee.Scale.{finite}
 use Rattle.ieee.specs.Number.{◌⊕◌}
+use Rattle.std.proofs.Common.{Result, Ok, Err}
+use Rattle.answer.specs.declared.Refusal.{Refusal}
 use Rattle.lookup.specs.declared.lin_search_hint.Dir.{Dir}
 use Rattle.lookup.specs.Coeff.{coeffs}
 use Rattle.link.proofs.Known.{and_both}
@@ -20,9 +22,11 @@ use Rattle.train.proofs.Moves.{standing-finite}
 use Rattle.resistance.specs.declared.strap.Strap.{Strap}
 use Rattle.resistance.specs.declared.strap.StrapRes.{StrapRes}
 use Rattle.resistance.specs.Listed.{list_answer}
-use Rattle.resistance.specs.Strap.{refused_res, calc_res_known, calc_res_of}
+use Rattle.resistance.specs.declared.strap.StrapForce.{StrapForce}
+use Rattle.resistance.specs.Strap.{refused_res, res_told, calc_res_known, calc_res_of}
 use Rattle.resistance.specs.Walk.{further, step_finite, walk_from, positions, walk_of}
 use Rattle.resistance.proofs.Answered.{asked-no, behind-no, behind-yes, both_first, both-second, both-done}
+use Rattle.resistance.proofs.Told.{not-done}
 use Rattle.resistance.proofs.ListSteps.{list-also, list-answered}
 use Rattle.resistance.proofs.StrapSteps.{settled, known-settled, calc-refused, calc-passed}
 
@@ -101,6 +105,11 @@ module _ (dir : Dir) (step : Float) (t₀ : Strap) (n : ℕ) (c : List Float) (w
               ap (λ (x : Bool). (list_answer x n c).number) (there ∙ sym here) ∙ w.0,
               ap (λ (q : TrainState). settled t₀ (walk_from dir step (m - 1) r.strap q n c)) f ∙ ap (settled t₀) on ∙ w.1,
             )
+
+  -- the last position, where the code's result is r
+  pub walking-ends : (m : ℕ) (t : Strap) (s : TrainState) → Walking m t s → m ≡ 0 → (r : Result StrapForce Refusal) → res_told t r ≡ calc_res_known dir t s (coeffs n c) → res_told t₀ r ≡ whole
+  walking-ends m t s w h (Ok there) e = walking-last m t s w e refl h
+  walking-ends m t s w h (Err x) e = walking-refused m t s w e (not-done x)
 
 -- ---- the public call
 module _ (dir : Dir) (step : Float) (t : Strap) (s : TrainState) (n : ℕ) (c : List Float) where

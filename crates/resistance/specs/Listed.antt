@@ -1,11 +1,15 @@
 -- A list searched alone: questions 1 and 2, one search, the values of one record. Definitions only.
-use Rattle.std.specs.Prelude.{ℕ, Bool, true, ◌&&◌, cond, List, [], ◌∷◌, ltb, Float}
+use Rattle.std.specs.Prelude.{ℕ, Bool, true, ◌&&◌, cond, List, [], ◌∷◌, ltb, Float, Result, Ok, Err}
 use Rattle.ieee.specs.Number.{+0, ◌⊖◌, ◌⊗◌, all_finite}
+use Rattle.answer.specs.declared.Refusal.{Refusal}
+use Rattle.answer.specs.declared.Answer.{Answer}
+use Rattle.answer.specs.Answers.{done, refusal}
+use Rattle.si.specs.declared.Length.{Length}
+use Rattle.si.specs.declared.Ratio.{Ratio}
 use Rattle.lookup.specs.declared.lin_search_hint.Dir.{Dir}
 use Rattle.lookup.specs.declared.path_res_coeff.PathResCoeff.{PathResCoeff}
 use Rattle.lookup.specs.Coeff.{coeffs, coeff_at, stands_at, coefficient_of, res_val, coeffs_finite}
 use Rattle.lookup.specs.CalcIdx.{Indexed, find_in, list_sound}
-use Rattle.answer.specs.declared.Answer.{Answer}
 use Rattle.path.specs.Answers.{is_done, ask, in_turn}
 use Rattle.train.specs.declared.train_state.TrainState.{TrainState}
 use Rattle.train.specs.Position.{state_finite}
@@ -16,6 +20,18 @@ use Rattle.resistance.specs.declared.listed.NetAnswer.{NetAnswer}
 -- questions 1 and 2 of a list; `also` is question 1 of the call's other numbers
 unfoldable pub list_answer : Bool → ℕ → List Float → Answer
 list_answer also n c = in_turn (ask 1 (also && coeffs_finite true n c) ∷ ask 2 (list_sound n c) ∷ [])
+
+-- ---- a result as C is told it
+
+-- a coefficient, 0 for a refusal
+abbrev pub coeff_told : Result Ratio Refusal → CoeffAnswer
+coeff_told (Ok x) = record { answer = done; res_coeff = x }
+coeff_told (Err e) = record { answer = refusal e; res_coeff = record { 0 = +0 } }
+
+-- a net value, 0 for a refusal
+abbrev pub net_told : Result Length Refusal → NetAnswer
+net_told (Ok x) = record { answer = done; res_net = x }
+net_told (Err e) = record { answer = refusal e; res_net = record { 0 = +0 } }
 
 -- ---- one search
 

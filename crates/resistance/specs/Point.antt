@@ -1,19 +1,21 @@
 -- `Point`, R64 to R67: path_res.rs. Definitions only.
-use Rattle.std.specs.Prelude.{ℕ, ◌-◌, false, ◌&&◌, cond, List, [], ◌∷◌, leb, negsuc, Float}
+use Rattle.std.specs.Prelude.{ℕ, ◌-◌, false, ◌&&◌, cond, List, [], ◌∷◌, leb, negsuc, Float, Result, Ok, Err}
 use Rattle.std.specs.Float.{fin}
 use Rattle.std.specs.Float.Ieee.Scale.{finite}
 use Rattle.ieee.specs.Number.{+0, ◌⊖◌, ◌⊗◌}
+use Rattle.answer.specs.declared.Refusal.{Refusal}
 use Rattle.lookup.specs.declared.lin_search_hint.Dir.{Dir}
 use Rattle.lookup.specs.declared.lin_search_hint.Dir.TheVariants.{Fwd}
 use Rattle.lookup.specs.declared.path_res_coeff.PathResCoeff.{PathResCoeff}
 use Rattle.lookup.specs.Coeff.{coeffs, coeff_at, coefficient_of}
 use Rattle.answer.specs.declared.Answer.{Answer}
-use Rattle.answer.specs.Answers.{done}
+use Rattle.answer.specs.Answers.{done, refusal}
 use Rattle.path.specs.Answers.{is_done, ask, in_turn}
 use Rattle.train.specs.declared.train_state.TrainState.{TrainState}
 use Rattle.train.specs.Position.{front_of, length_of, weight_of, state_finite}
 use Rattle.resistance.specs.declared.listed.Searched.{Searched}
 use Rattle.resistance.specs.declared.point.Point.{Point}
+use Rattle.resistance.specs.declared.point.PointForce.{PointForce}
 use Rattle.resistance.specs.declared.point.PointAnswer.{PointAnswer}
 use Rattle.resistance.specs.declared.point.PointRes.{PointRes}
 use Rattle.resistance.specs.Listed.{list_answer, search, not_searched}
@@ -48,6 +50,18 @@ res_at i s rs = coefficient_of (coeff_at rs i) ⊗ weight_of s
 -- a refused call hands the record back as it came
 abbrev pub refused_res : Answer → Point → PointRes
 refused_res a p = record { answer = a; point = p; res = record { 0 = +0 } }
+
+-- ---- a result as C is told it: p is the record as it came
+
+abbrev pub point_told : Point → Result Point Refusal → PointAnswer
+point_told p (Ok q) = record { answer = done; point = q }
+point_told p (Err e) = record { answer = refusal e; point = p }
+
+abbrev pub res_told : Point → Result PointForce Refusal → PointRes
+res_told p (Ok r) = record { answer = done; point = r.point; res = r.res }
+res_told p (Err e) = refused_res (refusal e) p
+
+-- ---- the resistance, in a list that is known to be sound
 
 unfoldable pub calc_res_known : Dir → Point → TrainState → List PathResCoeff → PointRes
 unfolding search_middle

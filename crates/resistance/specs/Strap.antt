@@ -1,19 +1,21 @@
 -- `Strap`, R68 to R72: path_res.rs. Definitions only.
-use Rattle.std.specs.Prelude.{ℕ, ◌-◌, Bool, true, false, not, ◌&&◌, cond, List, [], ◌∷◌, ◌++◌, leb, eqb, length, Float}
+use Rattle.std.specs.Prelude.{ℕ, ◌-◌, Bool, true, false, not, ◌&&◌, cond, List, [], ◌∷◌, ◌++◌, leb, eqb, length, Float, Result, Ok, Err}
 use Rattle.std.specs.Float.Ieee.Scale.{finite}
 use Rattle.ieee.specs.Number.{+0, ◌⊖◌, ◌⊗◌, ◌⊘◌, all_finite}
+use Rattle.answer.specs.declared.Refusal.{Refusal}
 use Rattle.lookup.specs.declared.lin_search_hint.Dir.{Dir}
 use Rattle.lookup.specs.declared.lin_search_hint.Dir.TheVariants.{Unk, Fwd, Bwd}
 use Rattle.lookup.specs.declared.path_res_coeff.PathResCoeff.{PathResCoeff}
 use Rattle.lookup.specs.Coeff.{coeffs, coeff_at, coefficient_of, res_val}
 use Rattle.answer.specs.declared.Answer.{Answer}
-use Rattle.answer.specs.Answers.{done}
+use Rattle.answer.specs.Answers.{done, refusal}
 use Rattle.path.specs.Answers.{is_done, ask, in_turn}
 use Rattle.train.specs.declared.train_state.TrainState.{TrainState}
 use Rattle.train.specs.Position.{front_of, back_of, length_of, weight_of, state_finite}
 use Rattle.resistance.specs.declared.listed.Searched.{Searched}
 use Rattle.resistance.specs.declared.strap.Strap.{Strap}
-use Rattle.resistance.specs.declared.strap.Moved.{Moved}
+use Rattle.resistance.specs.declared.strap.Ends.{Ends}
+use Rattle.resistance.specs.declared.strap.StrapForce.{StrapForce}
 use Rattle.resistance.specs.declared.strap.StrapAnswer.{StrapAnswer}
 use Rattle.resistance.specs.declared.strap.StrapRes.{StrapRes}
 use Rattle.resistance.specs.Listed.{list_answer, search, not_searched, value_steps}
@@ -30,11 +32,22 @@ back_idx t = t.idx_back
 abbrev pub answered : Answer → Strap → StrapAnswer
 answered a t = record { answer = a; strap = t }
 
+-- a result as C is told it: t is the record as it came
+abbrev pub strap_told : Strap → Result Strap Refusal → StrapAnswer
+strap_told t (Ok u) = answered done u
+strap_told t (Err e) = answered (refusal e) t
+
 -- ---- the searches of a call
 
 -- what follows a search is made only where the search is done
 abbrev pub after_search : {A : Type 0} → (Answer → A) → Searched → A → A
 after_search refuse found next = cond (is_done found.answer) next (refuse found.answer)
+
+-- what the searches of a call leave: the answer, the indices, and whether one record serves both ends
+pub record Moved : Type 0 where
+  pub answer : Answer
+  pub strap : Strap
+  pub one : Bool
 
 -- the two indices, and whether one record serves both ends
 abbrev pub moved_to : ℕ → ℕ → Bool → Moved
@@ -43,6 +56,11 @@ moved_to front back one = record { answer = done; strap = strap_of front back; o
 -- a refusal hands the indices back as they came
 abbrev pub not_moved : ℕ → ℕ → Answer → Moved
 not_moved front back a = record { answer = a; strap = strap_of front back; one = false }
+
+-- a result of the searches, t being the indices as they came
+abbrev pub moved_told : Strap → Result Ends Refusal → Moved
+moved_told t (Ok m) = record { answer = done; strap = m.strap; one = m.one }
+moved_told t (Err e) = record { answer = refusal e; strap = t; one = false }
 
 -- front and back exchanged
 abbrev pub turned : Moved → Moved
@@ -110,6 +128,11 @@ new_known s rs =
 -- a refused call hands the record back as it came
 abbrev pub refused_res : Answer → Strap → StrapRes
 refused_res a t = record { answer = a; strap = t; res = record { 0 = +0 } }
+
+-- a result with its force as C is told it
+abbrev pub res_told : Strap → Result StrapForce Refusal → StrapRes
+res_told t (Ok r) = record { answer = done; strap = r.strap; res = r.res }
+res_told t (Err e) = refused_res (refusal e) t
 
 -- the searches, and then question 8
 unfoldable pub calc_res_known : Dir → Strap → TrainState → List PathResCoeff → StrapRes

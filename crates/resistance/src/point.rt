@@ -1,22 +1,31 @@
 // `Point`: the train as a point in its middle.
 ghost use Rattle.std.specs.Prelude.{◌≡◌, ◌*◌, ◌≤◌, ◌<◌, length};
 ghost use Rattle.lookup.specs.Coeff.{coeffs};
-ghost use Rattle.resistance.specs.Listed.{res_coeff_of, res_net_of};
+ghost use Rattle.lookup.specs.CalcIdx.{indexed};
+ghost use Rattle.resistance.specs.Listed.{searched_of, coeff_told, net_told, res_coeff_of, res_net_of};
 ghost use Rattle.resistance.specs.Point as spec;
 
-use crate::listed::{CoeffAnswer, NetAnswer, Searched, list_answer, res_coeff, res_net, search};
-use answer::Answer;
+use crate::listed::{list_answer, res_coeff, res_net};
+use answer::{Answer, Question, Refusal};
 use lookup::lin_search_hint::Dir;
 use lookup::path_res_coeff::coeff_in;
-use path::questions::{asked, done};
-use si::{Force, Length};
+use lookup::search::find;
+use path::questions::done;
+use si::{Force, Length, Ratio};
 use train::train_state::{TrainState, state_finite};
 
 // The index of the train's middle in a list.
 #[repr(C)]
-#[derive(Clone, Copy)]
+#[derive(Clone, Copy, Debug, PartialEq, Eq)]
 pub struct Point {
     pub idx: usize,
+}
+
+// A point, and the force on the train there.
+#[derive(Clone, Copy)]
+pub struct PointForce {
+    pub point: Point,
+    pub res: Force,
 }
 
 // An answer with the record of a point.
@@ -36,133 +45,143 @@ pub struct PointRes {
     pub res: Force,
 }
 
+// What C is told of a call that hands back a point: a refused one the point that came.
+impl PointAnswer {
+    pub fn told(before: Point, r: Result<Point, Refusal>) -> PointAnswer
+        ensures { result ≡ spec.point_told before r }
+    {
+        match r {
+            Ok(point) => PointAnswer {
+                answer: done(),
+                point,
+            },
+            Err(e) => PointAnswer {
+                answer: Answer::from(e),
+                point: before,
+            },
+        }
+    }
+}
+
+// What C is told of a call that hands back a point and a force: a refused one the point that came, and 0.
+impl PointRes {
+    pub fn told(before: Point, r: Result<PointForce, Refusal>) -> PointRes
+        ensures { result ≡ spec.res_told before r }
+    {
+        match r {
+            Ok(there) => PointRes {
+                answer: done(),
+                point: there.point,
+                res: there.res,
+            },
+            Err(e) => PointRes {
+                answer: Answer::from(e),
+                point: before,
+                res: Force(0.0),
+            },
+        }
+    }
+}
+
 // The search of the train's middle: question 8 of where it is, then 10 and 11.
-fn search_middle(col: &[f64], n: usize, state: TrainState, hint: usize, dir: Dir) -> Searched
+fn search_middle(
+    col: &[f64],
+    n: usize,
+    state: TrainState,
+    hint: usize,
+    dir: Dir,
+) -> Result<usize, Refusal>
     requires n_nonzero { 0 < n }
     requires n_in_bounds { 3 * n ≤ length col.now }
-    ensures { result ≡ spec.search_middle dir hint state (coeffs n col.now) }
+    ensures { searched_of (indexed result) ≡ spec.search_middle dir hint state (coeffs n col.now) }
 {
     let middle = state.offset.0 - state.length.0 * 0.5;
-    if !ieee::is_finite(middle) {
-        return Searched {
-            answer: asked(8, false),
-            idx: 0,
-        };
-    }
-    search(col, n, Length(middle), hint, dir)
+    Question::Results.ask(ieee::is_finite(middle))?;
+    find(col, n, Length(middle), hint, dir)
 }
 
-// A new point on a list that is known to be sound.
-pub fn new_known(col: &[f64], n: usize, state: TrainState) -> PointAnswer
-    requires n_nonzero { 0 < n }
-    requires n_in_bounds { 3 * n ≤ length col.now }
-    ensures { result ≡ spec.new_known state (coeffs n col.now) }
-{
-    let s = search_middle(col, n, state, 0, Dir::Fwd);
-    let answer = s.answer;
-    PointAnswer {
-        answer,
-        point: Point { idx: s.idx },
+impl Point {
+    // A new point on a list that is known to be sound.
+    pub fn new_known(col: &[f64], n: usize, state: TrainState) -> Result<Point, Refusal>
+        requires n_nonzero { 0 < n }
+        requires n_in_bounds { 3 * n ≤ length col.now }
+        ensures { spec.point_told (spec.point_of 0) result ≡ spec.new_known state (coeffs n col.now) }
+    {
+        let idx = search_middle(col, n, state, 0, Dir::Fwd)?;
+        Ok(Point { idx })
     }
-}
 
-// A new point: questions 1, 2, 8, 10 and 11.
-pub fn new(col: &[f64], n: usize, state: TrainState) -> PointAnswer
-    ensures { result ≡ spec.new_of state n col.now }
-{
-    let finite = state_finite(state);
-    let first = list_answer(col, n, finite);
-    if first.number != 0 {
-        return PointAnswer {
-            answer: first,
-            point: Point { idx: 0 },
-        };
+    // A new point: questions 1, 2, 8, 10 and 11.
+    pub fn new(col: &[f64], n: usize, state: TrainState) -> Result<Point, Refusal>
+        ensures { spec.point_told (spec.point_of 0) result ≡ spec.new_of state n col.now }
+    {
+        list_answer(col, n, state_finite(state))?;
+        Point::new_known(col, n, state)
     }
-    new_known(col, n, state)
-}
 
-// The resistance of a point on a list that is known to be sound.
-pub fn calc_res_known(point: Point, col: &[f64], n: usize, state: TrainState, dir: Dir) -> PointRes
-    requires n_nonzero { 0 < n }
-    requires n_in_bounds { 3 * n ≤ length col.now }
-    ensures { result ≡ spec.calc_res_known dir point state (coeffs n col.now) }
-{
-    let s = search_middle(col, n, state, point.idx, dir);
-    let answer = s.answer;
-    if answer.number != 0 {
-        return PointRes {
-            answer,
-            point,
-            res: Force(0.0),
-        };
+    // The resistance of a point on a list that is known to be sound.
+    pub fn calc_res_known(
+        self,
+        col: &[f64],
+        n: usize,
+        state: TrainState,
+        dir: Dir,
+    ) -> Result<PointForce, Refusal>
+        requires n_nonzero { 0 < n }
+        requires n_in_bounds { 3 * n ≤ length col.now }
+        ensures { spec.res_told self result ≡ spec.calc_res_known dir self state (coeffs n col.now) }
+    {
+        let idx = search_middle(col, n, state, self.idx, dir)?;
+        let res = coeff_in(col, n, idx).res_coeff.0 * state.weight_static.0;
+        Question::Results.ask(ieee::is_finite(res))?;
+        Ok(PointForce {
+            point: Point { idx },
+            res: Force(res),
+        })
     }
-    let g = coeff_in(col, n, s.idx);
-    let res = g.res_coeff.0 * state.weight_static.0;
-    if !ieee::is_finite(res) {
-        return PointRes {
-            answer: asked(8, false),
-            point,
-            res: Force(0.0),
-        };
+
+    // The resistance of a point: questions 1, 2, 8, 10, 11 and 8.
+    pub fn calc_res(
+        self,
+        col: &[f64],
+        n: usize,
+        state: TrainState,
+        dir: Dir,
+    ) -> Result<PointForce, Refusal>
+        ensures { spec.res_told self result ≡ spec.calc_res_of dir self state n col.now }
+    {
+        list_answer(col, n, state_finite(state))?;
+        self.calc_res_known(col, n, state, dir)
     }
-    PointRes {
-        answer,
-        point: Point { idx: s.idx },
-        res: Force(res),
+
+    // The coefficient of the point's record.
+    pub fn res_coeff_front(self, col: &[f64], n: usize) -> Result<Ratio, Refusal>
+        ensures { coeff_told result ≡ res_coeff_of self.idx n col.now }
+    {
+        res_coeff(self.idx, col, n)
     }
-}
 
-// The resistance of a point: questions 1, 2, 8, 10, 11 and 8.
-pub fn calc_res(point: Point, col: &[f64], n: usize, state: TrainState, dir: Dir) -> PointRes
-    ensures { result ≡ spec.calc_res_of dir point state n col.now }
-{
-    let finite = state_finite(state);
-    let first = list_answer(col, n, finite);
-    if first.number != 0 {
-        return PointRes {
-            answer: first,
-            point,
-            res: Force(0.0),
-        };
+    // The value at the train's front, by the point's record.
+    pub fn res_net_front(self, col: &[f64], n: usize, state: TrainState) -> Result<Length, Refusal>
+        ensures { net_told result ≡ res_net_of self.idx state.offset.0 state n col.now }
+    {
+        res_net(self.idx, state.offset, col, n, state)
     }
-    calc_res_known(point, col, n, state, dir)
-}
 
-// The coefficient of the point's record.
-pub fn res_coeff_front(point: Point, col: &[f64], n: usize) -> CoeffAnswer
-    ensures { result ≡ res_coeff_of point.idx n col.now }
-{
-    res_coeff(point.idx, col, n)
-}
-
-// The value at the train's front, by the point's record.
-pub fn res_net_front(point: Point, col: &[f64], n: usize, state: TrainState) -> NetAnswer
-    ensures { result ≡ res_net_of point.idx state.offset.0 state n col.now }
-{
-    res_net(point.idx, Length(state.offset.0), col, n, state)
-}
-
-// The point's index.
-pub fn path_tpc_idx_front(point: Point) -> usize
-    ensures { result ≡ point.idx }
-{
-    point.idx
-}
-
-// The index once sub records at the front are dropped: question 11.
-pub fn fix_cache(point: Point, sub: usize) -> PointAnswer
-    ensures { result ≡ spec.fix_cache point sub }
-{
-    if point.idx < sub {
-        return PointAnswer {
-            answer: asked(11, false),
-            point,
-        };
+    // The point's index.
+    pub fn path_tpc_idx_front(self) -> usize
+        ensures { result ≡ self.idx }
+    {
+        self.idx
     }
-    PointAnswer {
-        answer: done(),
-        point: Point {
-            idx: point.idx - sub,
-        },
+
+    // The point once sub records at the front are dropped: question 11.
+    pub fn fix_cache(self, sub: usize) -> Result<Point, Refusal>
+        ensures { spec.point_told self result ≡ spec.fix_cache self sub }
+    {
+        Question::Hint.ask(sub <= self.idx)?;
+        Ok(Point {
+            idx: self.idx - sub,
+        })
     }
 }

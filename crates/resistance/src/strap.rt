@@ -1,23 +1,38 @@
 // `Strap`: the train as a strap from front to back.
 ghost use Rattle.std.specs.Prelude.{◌≡◌, ◌*◌, ◌≤◌, ◌<◌, length};
 ghost use Rattle.lookup.specs.Coeff.{coeffs};
-ghost use Rattle.resistance.specs.Listed.{res_coeff_of, res_net_of};
+ghost use Rattle.resistance.specs.Listed.{coeff_told, net_told, res_coeff_of, res_net_of};
 ghost use Rattle.resistance.specs.Strap as spec;
 
-use crate::listed::{CoeffAnswer, NetAnswer, list_answer, res_coeff, res_net, search};
-use answer::Answer;
+use crate::listed::{list_answer, res_coeff, res_net};
+use answer::{Answer, Question, Refusal};
 use lookup::lin_search_hint::Dir;
 use lookup::path_res_coeff::coeff_in;
-use path::questions::{asked, done};
+use lookup::search::find;
+use path::questions::done;
 use si::{Force, Length, Ratio};
 use train::train_state::{TrainState, state_finite};
 
 // The indices of the train's front and back in a list.
 #[repr(C)]
-#[derive(Clone, Copy)]
+#[derive(Clone, Copy, Debug, PartialEq, Eq)]
 pub struct Strap {
     pub idx_front: usize,
     pub idx_back: usize,
+}
+
+// A strap, and the force on the train there.
+#[derive(Clone, Copy)]
+pub struct StrapForce {
+    pub strap: Strap,
+    pub res: Force,
+}
+
+// What the searches of a call leave: the indices, and whether one record serves both ends.
+#[derive(Clone, Copy, Debug, PartialEq, Eq)]
+pub struct Ends {
+    pub strap: Strap,
+    pub one: bool,
 }
 
 // An answer with the record of a strap.
@@ -37,54 +52,56 @@ pub struct StrapRes {
     pub res: Force,
 }
 
-// What the searches of a call leave: the indices, and whether one record serves both ends.
-#[derive(Clone, Copy)]
-pub struct Moved {
-    pub answer: Answer,
-    pub strap: Strap,
-    pub one: bool,
-}
-
-// A search that is refused: the indices as they came.
-fn not_moved(idx_front: usize, idx_back: usize, answer: Answer) -> Moved
-    ensures { result ≡ spec.not_moved idx_front idx_back answer }
-{
-    Moved {
-        answer,
-        strap: Strap {
-            idx_front,
-            idx_back,
-        },
-        one: false,
+// What C is told of a call that hands back a strap: a refused one the strap that came.
+impl StrapAnswer {
+    pub fn told(before: Strap, r: Result<Strap, Refusal>) -> StrapAnswer
+        ensures { result ≡ spec.strap_told before r }
+    {
+        match r {
+            Ok(strap) => StrapAnswer {
+                answer: done(),
+                strap,
+            },
+            Err(e) => StrapAnswer {
+                answer: Answer::from(e),
+                strap: before,
+            },
+        }
     }
 }
 
-// The two indices where every search is done.
-fn moved_to(idx_front: usize, idx_back: usize, one: bool) -> Moved
-    ensures { result ≡ spec.moved_to idx_front idx_back one }
-{
-    Moved {
-        answer: done(),
-        strap: Strap {
-            idx_front,
-            idx_back,
-        },
-        one,
+// What C is told of a call that hands back a strap and a force: a refused one the strap that came, and 0.
+impl StrapRes {
+    pub fn told(before: Strap, r: Result<StrapForce, Refusal>) -> StrapRes
+        ensures { result ≡ spec.res_told before r }
+    {
+        match r {
+            Ok(there) => StrapRes {
+                answer: done(),
+                strap: there.strap,
+                res: there.res,
+            },
+            Err(e) => StrapRes {
+                answer: Answer::from(e),
+                strap: before,
+                res: Force(0.0),
+            },
+        }
     }
 }
 
-// Front and back exchanged.
-fn turned(m: Moved) -> Moved
-    ensures { result ≡ spec.turned m }
-{
-    let answer = m.answer;
-    Moved {
-        answer,
-        strap: Strap {
-            idx_front: m.strap.idx_back,
-            idx_back: m.strap.idx_front,
-        },
-        one: m.one,
+impl Ends {
+    // The two indices, and whether one record serves both ends.
+    fn at(idx_front: usize, idx_back: usize, one: bool) -> Ends
+        ensures { result ≡ record { strap = spec.strap_of idx_front idx_back; one = one } }
+    {
+        Ends {
+            strap: Strap {
+                idx_front,
+                idx_back,
+            },
+            one,
+        }
     }
 }
 
@@ -98,232 +115,174 @@ fn moved_ends(
     col: &[f64],
     n: usize,
     dir: Dir,
-) -> Moved
+) -> Result<Ends, Refusal>
     requires n_nonzero { 0 < n }
     requires n_in_bounds { 3 * n ≤ length col.now }
-    ensures { result ≡ spec.moved_ends dir both x.0 i y.0 k (coeffs n col.now) }
+    ensures { spec.moved_told (spec.strap_of i k) result ≡ spec.moved_ends dir both x.0 i y.0 k (coeffs n col.now) }
 {
-    let first = search(col, n, x, i, dir);
-    let answer = first.answer;
-    if answer.number != 0 {
-        return not_moved(i, k, answer);
+    let first = find(col, n, x, i, dir)?;
+    if !both & (first == k) {
+        return Ok(Ends::at(first, k, true));
     }
-    if !both & (first.idx == k) {
-        return moved_to(first.idx, k, true);
-    }
-    let second = search(col, n, y, k, dir);
-    let last = second.answer;
-    if last.number != 0 {
-        return not_moved(i, k, last);
-    }
-    moved_to(first.idx, second.idx, both & (first.idx == second.idx))
+    let second = find(col, n, y, k, dir)?;
+    Ok(Ends::at(first, second, both & (first == second)))
 }
 
-// The two indices after the searches of a direction.
-pub fn moved_by(strap: Strap, col: &[f64], n: usize, state: TrainState, dir: Dir) -> Moved
-    requires n_nonzero { 0 < n }
-    requires n_in_bounds { 3 * n ≤ length col.now }
-    ensures { result ≡ spec.moved dir strap state (coeffs n col.now) }
-{
-    let front = strap.idx_front;
-    let back = strap.idx_back;
-    let x = Length(state.offset.0);
-    let y = Length(state.offset_back.0);
-    match dir {
-        Dir::Fwd => moved_ends(x, front, y, back, false, col, n, Dir::Fwd),
-        Dir::Bwd => turned(moved_ends(y, back, x, front, false, col, n, Dir::Bwd)),
-        Dir::Unk => moved_ends(x, front, y, back, true, col, n, Dir::Unk),
+impl Strap {
+    // The two indices after the searches of a direction.
+    pub fn moved_by(
+        self,
+        col: &[f64],
+        n: usize,
+        state: TrainState,
+        dir: Dir,
+    ) -> Result<Ends, Refusal>
+        requires n_nonzero { 0 < n }
+        requires n_in_bounds { 3 * n ≤ length col.now }
+        ensures { spec.moved_told self result ≡ spec.moved dir self state (coeffs n col.now) }
+    {
+        let front = self.idx_front;
+        let back = self.idx_back;
+        let x = state.offset;
+        let y = state.offset_back;
+        match dir {
+            Dir::Fwd => moved_ends(x, front, y, back, false, col, n, Dir::Fwd),
+            Dir::Unk => moved_ends(x, front, y, back, true, col, n, Dir::Unk),
+            Dir::Bwd => {
+                let m = moved_ends(y, back, x, front, false, col, n, Dir::Bwd)?;
+                Ok(Ends::at(m.strap.idx_back, m.strap.idx_front, m.one))
+            }
+        }
     }
-}
 
-// The strap's coefficient: that of the one record, or (front value - back value) / length.
-pub fn calc_res_strap(one: bool, strap: Strap, col: &[f64], n: usize, state: TrainState) -> Ratio
-    requires idx_front_bound { strap.idx_front < n }
-    requires idx_back_bound { strap.idx_back < n }
-    requires n_in_bounds { 3 * n ≤ length col.now }
-    ensures { result.0 ≡ spec.calc_res_strap one strap state (coeffs n col.now) }
-{
-    let front = coeff_in(col, n, strap.idx_front);
-    if one {
-        return Ratio(front.res_coeff.0);
+    // The strap's coefficient: that of the one record, or (front value - back value) / length.
+    pub fn calc_res_strap(self, one: bool, col: &[f64], n: usize, state: TrainState) -> Ratio
+        requires idx_front_bound { self.idx_front < n }
+        requires idx_back_bound { self.idx_back < n }
+        requires n_in_bounds { 3 * n ≤ length col.now }
+        ensures { result.0 ≡ spec.calc_res_strap one self state (coeffs n col.now) }
+    {
+        let front = coeff_in(col, n, self.idx_front);
+        if one {
+            return front.res_coeff;
+        }
+        let front_value = front.calc_res_val(state.offset);
+        let back = coeff_in(col, n, self.idx_back);
+        let back_value = back.calc_res_val(state.offset_back);
+        let length = state.length.0;
+        Ratio((front_value.0 - back_value.0) / length)
     }
-    let front_value = front.calc_res_val(Length(state.offset.0));
-    let back = coeff_in(col, n, strap.idx_back);
-    let back_value = back.calc_res_val(Length(state.offset_back.0));
-    let length = state.length.0;
-    Ratio((front_value.0 - back_value.0) / length)
-}
 
-// A new strap on a list that is known to be sound.
-pub fn new_known(col: &[f64], n: usize, state: TrainState) -> StrapAnswer
-    requires n_nonzero { 0 < n }
-    requires n_in_bounds { 3 * n ≤ length col.now }
-    ensures { result ≡ spec.new_known state (coeffs n col.now) }
-{
-    let none = Strap {
-        idx_front: 0,
-        idx_back: 0,
-    };
-    if n <= 1 {
-        return StrapAnswer {
-            answer: done(),
-            strap: none,
-        };
-    }
-    let x = state.offset.0 - state.length.0;
-    if !ieee::is_finite(x) {
-        return StrapAnswer {
-            answer: asked(8, false),
-            strap: none,
-        };
-    }
-    let back = search(col, n, Length(x), 0, Dir::Fwd);
-    let answer = back.answer;
-    if answer.number != 0 {
-        return StrapAnswer {
-            answer,
-            strap: none,
-        };
-    }
-    let front = search(col, n, Length(state.offset.0), back.idx, Dir::Fwd);
-    let other = front.answer;
-    if other.number != 0 {
-        return StrapAnswer {
-            answer: other,
-            strap: none,
-        };
-    }
-    StrapAnswer {
-        answer: other,
-        strap: Strap {
-            idx_front: front.idx,
-            idx_back: back.idx,
-        },
-    }
-}
-
-// A new strap: questions 1, 2, 8 and 10.
-pub fn new(col: &[f64], n: usize, state: TrainState) -> StrapAnswer
-    ensures { result ≡ spec.new_of state n col.now }
-{
-    let finite = state_finite(state);
-    let first = list_answer(col, n, finite);
-    if first.number != 0 {
-        return StrapAnswer {
-            answer: first,
-            strap: Strap {
+    // A new strap on a list that is known to be sound.
+    pub fn new_known(col: &[f64], n: usize, state: TrainState) -> Result<Strap, Refusal>
+        requires n_nonzero { 0 < n }
+        requires n_in_bounds { 3 * n ≤ length col.now }
+        ensures { spec.strap_told (spec.strap_of 0 0) result ≡ spec.new_known state (coeffs n col.now) }
+    {
+        if n <= 1 {
+            return Ok(Strap {
                 idx_front: 0,
                 idx_back: 0,
-            },
-        };
+            });
+        }
+        let x = state.offset.0 - state.length.0;
+        Question::Results.ask(ieee::is_finite(x))?;
+        let idx_back = find(col, n, Length(x), 0, Dir::Fwd)?;
+        let idx_front = find(col, n, state.offset, idx_back, Dir::Fwd)?;
+        Ok(Strap {
+            idx_front,
+            idx_back,
+        })
     }
-    new_known(col, n, state)
-}
 
-// The resistance of a strap on a list that is known to be sound.
-pub fn calc_res_known(strap: Strap, col: &[f64], n: usize, state: TrainState, dir: Dir) -> StrapRes
-    requires n_nonzero { 0 < n }
-    requires n_in_bounds { 3 * n ≤ length col.now }
-    ensures { result ≡ spec.calc_res_known dir strap state (coeffs n col.now) }
-{
-    let m = moved_by(strap, col, n, state, dir);
-    let answer = m.answer;
-    if answer.number != 0 {
-        return StrapRes {
-            answer,
+    // A new strap: questions 1, 2, 8 and 10.
+    pub fn new(col: &[f64], n: usize, state: TrainState) -> Result<Strap, Refusal>
+        ensures { spec.strap_told (spec.strap_of 0 0) result ≡ spec.new_of state n col.now }
+    {
+        list_answer(col, n, state_finite(state))?;
+        Strap::new_known(col, n, state)
+    }
+
+    // The resistance of a strap on a list that is known to be sound.
+    pub fn calc_res_known(
+        self,
+        col: &[f64],
+        n: usize,
+        state: TrainState,
+        dir: Dir,
+    ) -> Result<StrapForce, Refusal>
+        requires n_nonzero { 0 < n }
+        requires n_in_bounds { 3 * n ≤ length col.now }
+        ensures { spec.res_told self result ≡ spec.calc_res_known dir self state (coeffs n col.now) }
+    {
+        let m = self.moved_by(col, n, state, dir)?;
+        let strap = m.strap;
+        let coeff = strap.calc_res_strap(m.one, col, n, state);
+        let res = coeff.0 * state.weight_static.0;
+        Question::Results.ask(ieee::is_finite(res))?;
+        Ok(StrapForce {
             strap,
-            res: Force(0.0),
-        };
+            res: Force(res),
+        })
     }
-    let after = m.strap;
-    let coeff = calc_res_strap(m.one, after, col, n, state);
-    let res = coeff.0 * state.weight_static.0;
-    if !ieee::is_finite(res) {
-        return StrapRes {
-            answer: asked(8, false),
-            strap,
-            res: Force(0.0),
-        };
+
+    // The resistance of a strap: questions 1, 2, then each search's 10 and 11, then 8.
+    pub fn calc_res(
+        self,
+        col: &[f64],
+        n: usize,
+        state: TrainState,
+        dir: Dir,
+    ) -> Result<StrapForce, Refusal>
+        ensures { spec.res_told self result ≡ spec.calc_res_of dir self state n col.now }
+    {
+        list_answer(col, n, state_finite(state))?;
+        self.calc_res_known(col, n, state, dir)
     }
-    StrapRes {
-        answer,
-        strap: after,
-        res: Force(res),
+
+    // The coefficient of the front's record.
+    pub fn res_coeff_front(self, col: &[f64], n: usize) -> Result<Ratio, Refusal>
+        ensures { coeff_told result ≡ res_coeff_of self.idx_front n col.now }
+    {
+        res_coeff(self.idx_front, col, n)
     }
-}
 
-// The resistance of a strap: questions 1, 2, then each search's 10 and 11, then 8.
-pub fn calc_res(strap: Strap, col: &[f64], n: usize, state: TrainState, dir: Dir) -> StrapRes
-    ensures { result ≡ spec.calc_res_of dir strap state n col.now }
-{
-    let finite = state_finite(state);
-    let first = list_answer(col, n, finite);
-    if first.number != 0 {
-        return StrapRes {
-            answer: first,
-            strap,
-            res: Force(0.0),
-        };
+    // The coefficient of the back's record.
+    pub fn res_coeff_back(self, col: &[f64], n: usize) -> Result<Ratio, Refusal>
+        ensures { coeff_told result ≡ res_coeff_of self.idx_back n col.now }
+    {
+        res_coeff(self.idx_back, col, n)
     }
-    calc_res_known(strap, col, n, state, dir)
-}
 
-// The coefficient of the front's record.
-pub fn res_coeff_front(strap: Strap, col: &[f64], n: usize) -> CoeffAnswer
-    ensures { result ≡ res_coeff_of strap.idx_front n col.now }
-{
-    res_coeff(strap.idx_front, col, n)
-}
-
-// The coefficient of the back's record.
-pub fn res_coeff_back(strap: Strap, col: &[f64], n: usize) -> CoeffAnswer
-    ensures { result ≡ res_coeff_of strap.idx_back n col.now }
-{
-    res_coeff(strap.idx_back, col, n)
-}
-
-// The value at the front, by the front's record.
-pub fn res_net_front(strap: Strap, col: &[f64], n: usize, state: TrainState) -> NetAnswer
-    ensures { result ≡ res_net_of strap.idx_front state.offset.0 state n col.now }
-{
-    res_net(strap.idx_front, Length(state.offset.0), col, n, state)
-}
-
-// The value at the back, by the back's record.
-pub fn res_net_back(strap: Strap, col: &[f64], n: usize, state: TrainState) -> NetAnswer
-    ensures { result ≡ res_net_of strap.idx_back state.offset_back.0 state n col.now }
-{
-    res_net(strap.idx_back, Length(state.offset_back.0), col, n, state)
-}
-
-// The front's index.
-pub fn path_tpc_idx_front(strap: Strap) -> usize
-    ensures { result ≡ strap.idx_front }
-{
-    strap.idx_front
-}
-
-// The two indices once sub records at the front are dropped: question 11.
-pub fn fix_cache(strap: Strap, sub: usize) -> StrapAnswer
-    ensures { result ≡ spec.fix_cache strap sub }
-{
-    if strap.idx_back < sub {
-        return StrapAnswer {
-            answer: asked(11, false),
-            strap,
-        };
+    // The value at the front, by the front's record.
+    pub fn res_net_front(self, col: &[f64], n: usize, state: TrainState) -> Result<Length, Refusal>
+        ensures { net_told result ≡ res_net_of self.idx_front state.offset.0 state n col.now }
+    {
+        res_net(self.idx_front, state.offset, col, n, state)
     }
-    if strap.idx_front < sub {
-        return StrapAnswer {
-            answer: asked(11, false),
-            strap,
-        };
+
+    // The value at the back, by the back's record.
+    pub fn res_net_back(self, col: &[f64], n: usize, state: TrainState) -> Result<Length, Refusal>
+        ensures { net_told result ≡ res_net_of self.idx_back state.offset_back.0 state n col.now }
+    {
+        res_net(self.idx_back, state.offset_back, col, n, state)
     }
-    StrapAnswer {
-        answer: done(),
-        strap: Strap {
-            idx_front: strap.idx_front - sub,
-            idx_back: strap.idx_back - sub,
-        },
+
+    // The front's index.
+    pub fn path_tpc_idx_front(self) -> usize
+        ensures { result ≡ self.idx_front }
+    {
+        self.idx_front
+    }
+
+    // The strap once sub records at the front are dropped: question 11.
+    pub fn fix_cache(self, sub: usize) -> Result<Strap, Refusal>
+        ensures { spec.strap_told self result ≡ spec.fix_cache self sub }
+    {
+        Question::Hint.ask(sub <= self.idx_back && sub <= self.idx_front)?;
+        Ok(Strap {
+            idx_front: self.idx_front - sub,
+            idx_back: self.idx_back - sub,
+        })
     }
 }

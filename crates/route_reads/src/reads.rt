@@ -8,7 +8,7 @@ use path::columns::PathColumns;
 use path::path_tpc::PathTpc;
 use path_link_records::link_records::link_range;
 use path_posted::posted_speed::posted_speed;
-use resistance::strap::Strap;
+use resistance::strap::{Strap, StrapAnswer, StrapRes};
 use route::fields::{bytes_at, count_at, direction_of, float_at};
 use route::kinds::Call;
 use show::{To, put, put_count, put_real, put_real_in};
@@ -158,12 +158,10 @@ fn standing(
     if let Some(strap) = strap {
         return Ok(strap);
     }
-    let r = resistance::strap::new(col, n, state);
-    let answer = r.answer;
-    if answer.number != 0 {
-        return Err(answer);
+    match Strap::new(col, n, state) {
+        Ok(strap) => Ok(strap),
+        Err(e) => Err(Answer::from(e)),
     }
-    Ok(r.strap)
 }
 
 // The resistance of one list: its answer printed; the strap afterwards.
@@ -184,7 +182,7 @@ fn one_resistance(
             return Err(answer);
         }
     };
-    let r = resistance::strap::calc_res(placed, col, n, state, dir);
+    let r = StrapRes::told(placed, placed.calc_res(col, n, state, dir));
     let answer = r.answer;
     if !outcome(out, answer) {
         return Err(answer);
@@ -234,8 +232,8 @@ pub fn resistance_line(
 
 // The straps behind a drop of so many grades and curves; none where an index would fall below 0.
 pub fn fixed(s: Straps, grades: usize, curves: usize) -> Option<Straps> {
-    let g = resistance::strap::fix_cache(s.grade, grades);
-    let c = resistance::strap::fix_cache(s.curve, curves);
+    let g = StrapAnswer::told(s.grade, s.grade.fix_cache(grades));
+    let c = StrapAnswer::told(s.curve, s.curve.fix_cache(curves));
     let of_grade = g.answer;
     let of_curve = c.answer;
     if (of_grade.number == 0) & (of_curve.number == 0) {

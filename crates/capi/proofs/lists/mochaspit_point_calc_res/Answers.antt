@@ -1,5 +1,5 @@
 -- `mochaspit_point_calc_res`: by the direction that its code names.
-use mathlib.Core.Path.{ap}
+use mathlib.Core.Path.{ap, ◌∙◌}
 use mathlib.Core.Bool.{false}
 use lib.Ieee.{of_bits}
 use Rattle.lookup.specs.declared.lin_search_hint.Dir.{Dir}
@@ -12,7 +12,7 @@ use Rattle.capi.proofs.lists.mochaspit_point_calc_res.Goals as goal
 pub returns-in-Known : goal.returns-in-Known
 returns-in-Known c =
     let a = c.args in
-    direction-known a.dir (λ (d : Dir). calc_res_of d a.point a.state a.n a.col.now) (refused_res (ask 1 false) a.point) c.dir_of.ensures c.in-Known.is c.calc_res.ensures
+    direction-known a.dir (λ (d : Dir). calc_res_of d a.point a.state a.n a.col.now) (refused_res (ask 1 false) a.point) c.dir_of.ensures c.in-Known.is (c.told.ensures ∙ c.calc_res.ensures)
 
 pub returns-in-Unknown : goal.returns-in-Unknown
 unfolding of_bits

@@ -1,22 +1,15 @@
 -- `list_answer`: question 1 and then question 2.
-use mathlib.Core.Path.{sym, ap, ◌∙◌}
-use Rattle.resistance.proofs.ListSteps.{list-else, list-numbers, list-sound}
-use Rattle.path.specs.Answers.{ask}
+use native.Mathlib.Omega.{arith}
+use Rattle.std.proofs.lemmas.Grind.{common_steps}
+use Rattle.std.proofs.lemmas.Bool.Decides.{nat_tests}
+use Rattle.path.specs.Answers.{in_turn}
+use Rattle.resistance.specs.Listed.{list_answer}
 use Rattle.resistance.proofs.listed.list_answer.Goals as goal
 
-pub returns-then-not-also : goal.returns-then-not-also
-returns-then-not-also c =
-    let a = c.args in
-    c.asked.ensures ∙ list-else a.also a.n a.col.now c.if-not-also.true
-
-pub returns-then-not-coeffs_finite : goal.returns-then-not-coeffs_finite
-returns-then-not-coeffs_finite c =
-    let a = c.args in
-    c.asked-then-not-coeffs_finite.ensures ∙ list-numbers a.also a.n a.col.now c.if-not-also.false (sym c.coeffs_finite.ensures ∙ c.if-not-coeffs_finite.true)
+pub returns-in_err-ask : goal.returns-in_err-ask
+unfolding list_answer in_turn
+returns-in_err-ask c = grind (arith, nat_tests, common_steps)
 
 pub returns : goal.returns
-returns c =
-    let a = c.args in
-    c.asked-2.ensures
-    ∙ ap (ask 2) c.list_sound.ensures
-    ∙ list-sound a.also a.n a.col.now c.if-not-also.false (sym c.coeffs_finite.ensures ∙ c.if-not-coeffs_finite.false)
+unfolding list_answer in_turn
+returns c = grind (arith, nat_tests, common_steps)
