@@ -40,10 +40,19 @@ pub fn clause_of(network: &Network, n: u32) -> u32
         return 4;
     }
     let first = l.headings_first as usize;
-    if !samples_formed(network.headings, first, l.headings_count as usize, Length(length)) {
+    if !samples_formed(
+        network.headings,
+        first,
+        l.headings_count as usize,
+        Length(length),
+    ) {
         return 5;
     }
-    if !limits_formed(network.powers, l.powers_first as usize, l.powers_count as usize) {
+    if !limits_formed(
+        network.powers,
+        l.powers_first as usize,
+        l.powers_count as usize,
+    ) {
         return 6;
     }
     set_clause(network, n)

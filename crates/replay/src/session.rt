@@ -122,7 +122,9 @@ impl Session {
 
     fn point_res(&mut self, args: &[u64]) -> Reply {
         let dir = words::dir(entry(args, 0));
-        let force = self.point.calc_res(&self.list, self.records(), self.state, dir);
+        let force = self
+            .point
+            .calc_res(&self.list, self.records(), self.state, dir);
         let r = PointRes::told(self.point, force);
         self.point = r.point;
         Reply::new(r.answer)
@@ -148,7 +150,9 @@ impl Session {
 
     fn strap_res(&mut self, args: &[u64]) -> Reply {
         let dir = words::dir(entry(args, 0));
-        let force = self.strap.calc_res(&self.list, self.records(), self.state, dir);
+        let force = self
+            .strap
+            .calc_res(&self.list, self.records(), self.state, dir);
         let r = StrapRes::told(self.strap, force);
         self.strap = r.strap;
         Reply::new(r.answer)
@@ -169,7 +173,9 @@ impl Session {
     }
 
     pub fn point_net(&self) -> Reply {
-        let r = self.point.res_net_front(&self.list, self.records(), self.state);
+        let r = self
+            .point
+            .res_net_front(&self.list, self.records(), self.state);
         net(NetAnswer::from(r))
     }
 
@@ -184,12 +190,16 @@ impl Session {
     }
 
     pub fn strap_net_front(&self) -> Reply {
-        let r = self.strap.res_net_front(&self.list, self.records(), self.state);
+        let r = self
+            .strap
+            .res_net_front(&self.list, self.records(), self.state);
         net(NetAnswer::from(r))
     }
 
     pub fn strap_net_back(&self) -> Reply {
-        let r = self.strap.res_net_back(&self.list, self.records(), self.state);
+        let r = self
+            .strap
+            .res_net_back(&self.list, self.records(), self.state);
         net(NetAnswer::from(r))
     }
 }
