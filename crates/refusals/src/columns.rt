@@ -11,6 +11,7 @@ pub type Named<T> = BTreeMap<String, Vec<T>>;
 pub struct Columns {
     reals: Named<f64>,
     wholes: Named<u32>,
+    set: usize,
 }
 
 // Whether a line that begins with this word sets a column.
@@ -18,15 +19,28 @@ pub fn is_kind(w: &str) -> bool {
     w == "reals" || w == "wholes"
 }
 
-// The words of a column: those behind its name, and those of the lines that continue it.
+// The most columns of a text, and the most numbers of one.
+const COLUMNS: usize = 128;
+
+const NUMBERS: usize = 256;
+
+// The words of a column: those behind its name, where there are any, and those of the lines that continue it, up to one without a word.
 pub fn continued<'a>(
     alloc: Global,
     own: &[&'a str],
     behind: &[&'a str],
 ) -> Result<Vec<&'a str>, AllocError> {
     let mut all = Vec::from_slice(alloc, own)?;
+    if own.is_empty() {
+        return Ok(all);
+    }
     for line in behind.iter().take_while(|line| continues(line)) {
-        all.extend_from_slice(words(alloc, line)?.get(1..).unwrap_or(&[]))?;
+        let further = words(alloc, line)?;
+        let Some([first, more @ ..]) = further.get(1..) else {
+            return Ok(all);
+        };
+        all.push(*first)?;
+        all.extend_from_slice(more)?;
     }
     Ok(all)
 }
@@ -37,6 +51,9 @@ fn put<T: Number + Drop>(
     name: &str,
     ws: &[&str],
 ) -> Result<(), Fault> {
+    if NUMBERS < ws.len() {
+        return Err(Fault::Unreadable);
+    }
     let col = numbers(alloc, ws)?;
     let key = String::from_str(alloc, name)?;
     named.insert(key, col).map_err(AllocError::from)?;
@@ -56,15 +73,21 @@ impl Columns {
         Columns {
             reals: BTreeMap::new(alloc),
             wholes: BTreeMap::new(alloc),
+            set: 0,
         }
     }
 
     pub fn set(&mut self, alloc: Global, kind: &str, name: &str, ws: &[&str]) -> Result<(), Fault> {
-        if kind == "reals" {
-            put(alloc, &mut self.reals, name, ws)
-        } else {
-            put(alloc, &mut self.wholes, name, ws)
+        if COLUMNS <= self.set {
+            return Err(Fault::Unreadable);
         }
+        if kind == "reals" {
+            put(alloc, &mut self.reals, name, ws)?;
+        } else {
+            put(alloc, &mut self.wholes, name, ws)?;
+        }
+        self.set = self.set.saturating_add(1);
+        Ok(())
     }
 
     pub fn reals(&self, name: &str) -> Result<&[f64], Fault> {

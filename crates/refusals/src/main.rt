@@ -24,6 +24,9 @@ enum Line<'a> {
     Row(&'a str, Shown),
 }
 
+// How many bytes a text may not have.
+const TOO_LONG: usize = 100000;
+
 // How many rows there were, and how many lines that cannot be read.
 #[derive(Clone, Copy)]
 struct Seen {
@@ -45,9 +48,20 @@ fn run_call(alloc: Global, columns: &Columns, call: &str, args: &[&str]) -> Resu
     }
 }
 
+// What stands before the first colon that is a word of its own, and behind it.
+fn call_and_name(line: &str) -> Option<(&str, &str)> {
+    match line.split_once(" : ") {
+        Some(parts) => Some(parts),
+        None => line.strip_suffix(" :").map(|call| (call, "")),
+    }
+}
+
 // A row, CALL ARGUMENT .. : NAME. The name goes to the line's end.
 fn row<'a>(alloc: Global, columns: &Columns, line: &'a str) -> Result<Line<'a>, Fault> {
-    let (call, name) = line.split_once(" : ").ok_or(Fault::Unreadable)?;
+    let (call, name) = call_and_name(line).ok_or(Fault::Unreadable)?;
+    if call.contains('#') {
+        return Err(Fault::Unreadable);
+    }
     let args = words(alloc, call)?;
     match args.as_slice() {
         [] => Err(Fault::Unreadable),
@@ -111,6 +125,9 @@ fn run(rt: &impl Print, alloc: Global, text: &str) -> io::Result<Seen> {
 fn main(rt: HostRuntime) -> io::Result<()> {
     let alloc = rt.alloc();
     let text = io::read_to_string(alloc, rt.reader())?;
+    if text.len() >= TOO_LONG {
+        return println!(rt; "the text is too long");
+    }
     let seen = run(&rt, alloc, &text)?;
     println!(rt;
         "rows run: {}; lines that cannot be read: {}",
