@@ -52,7 +52,10 @@ fn run_call(alloc: Global, columns: &Columns, call: &str, args: &[&str]) -> Resu
 fn call_and_name(line: &str) -> Option<(&str, &str)> {
     match line.split_once(" : ") {
         Some(parts) => Some(parts),
-        None => line.strip_suffix(" :").map(|call| (call, "")),
+        None => match line.strip_suffix(" :") {
+            Some(call) => Some((call, &line[line.len()..])),
+            None => None,
+        },
     }
 }
 
