@@ -11,7 +11,11 @@ use Rattle.answer.specs.declared.Refusal.{Refusal}
 use Rattle.answer.specs.declared.Answer.{Answer}
 use Rattle.answer.specs.Answers.{number, done, refusal, answer, asked, asked_each}
 use Rattle.std.proofs.Common.{rules}
-use Rattle.path.specs.Answers.{ask, ask_each}
+use Rattle.path.specs.declared.path_tpc.PathTpc.{PathTpc}
+use Rattle.path.specs.declared.path_tpc.PathAnswer.{PathAnswer}
+use Rattle.path.specs.Records.{Columns, Path}
+use Rattle.path.specs.Answers.{ask, ask_each, told, left, outcome}
+use Rattle.path.proofs.InTurn.{outcome-refused}
 
 pub told-asked : (q : Question) (b : Bool) → answer (asked q b) ≡ ask (number q) b
 told-asked q true = refl
@@ -48,6 +52,23 @@ module _ {A : Type 0} {r : Result A Refusal} {a : Answer} (e : answer r ≡ a) w
 pub handed-on : {A : Type 0} (r : Result A Refusal) (f : Refusal) → IsErrAnd r (λ g. g ≡ f) → answer r ≡ refusal f
 handed-on (Ok x) f h = absurd h
 handed-on (Err g) f h = ap refusal h
+
+-- a refusal that `?` hands on out of a call on the path p: its record and the columns c stay, as the answer a leaves them
+module _ (p : PathTpc) (c : Columns) (after : Path) where
+  handed-told : (s : Result PathTpc Refusal) (f : Refusal) → IsErrAnd s (λ g. g ≡ f) → told p s ≡ record { answer = refusal f; path = p }
+  handed-told (Ok x) f h = absurd h
+  handed-told (Err g) f h = ap (λ (k : Refusal). record { answer = refusal k; path = p }) h
+
+  pub handed-outcome :
+      (s : Result PathTpc Refusal)
+      → {A : Type 0} {r : Result A Refusal} {f : Refusal} {a : Answer}
+      → answer r ≡ a
+      → r ≡ Err f
+      → IsErrAnd s (λ g. g ≡ f)
+      → left (told p s) c ≡ outcome a p c after
+  handed-outcome s {f = f} {a = a} e was h =
+      ap (λ (t : PathAnswer). left t c) (handed-told s f h ∙ ap (λ (b : Answer). record { answer = b; path = p }) (told-err e was))
+      ∙ sym (outcome-refused a p c after (λ k. numbered f.question (ap (λ (b : Answer). b.number) (told-err e was) ∙ k)))
 
 -- a question that was asked once
 module _ (q : Question) (b : Bool) {r : Result Unit Refusal} (e : r ≡ asked q b) where

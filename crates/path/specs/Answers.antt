@@ -1,11 +1,12 @@
 -- Questions and answers, R98 to R101: the first no gives number and place; done is 0, place 0. Definitions only.
-use Rattle.std.specs.Prelude.{ℕ, Bool, cond, List, [], ◌∷◌, eqb, Option, Some, None}
+use Rattle.std.specs.Prelude.{ℕ, Bool, cond, List, [], ◌∷◌, eqb, Option, Some, None, Result, Ok, Err}
 use Rattle.link.specs.declared.train_params.TrainType.{TrainType}
 use Rattle.link.specs.Table.{LinkTable}
 use Rattle.link.specs.Questions.{question4, question6, question7}
-use Rattle.answer.specs.Answers.{done}
+use Rattle.answer.specs.Answers.{done, refusal}
 use Rattle.path.specs.declared.path_tpc.PathTpc.{PathTpc}
 use Rattle.answer.specs.declared.Answer.{Answer}
+use Rattle.answer.specs.declared.Refusal.{Refusal}
 use Rattle.path.specs.declared.path_tpc.PathAnswer.{PathAnswer}
 use Rattle.path.specs.Records.{Columns, Path, record_of, columns_of}
 
@@ -44,6 +45,11 @@ pub record Outcome : Type 0 where
 
 abbrev pub left : PathAnswer → Columns → Outcome
 left a c = record { answer = a; columns = c }
+
+-- what C is told of a call that may change the path p: its new record, or p as it came with the refusal
+abbrev pub told : PathTpc → Result PathTpc Refusal → PathAnswer
+told p (Ok after) = record { answer = done; path = after }
+told p (Err e) = record { answer = refusal e; path = p }
 
 -- what a call that is done leaves: the path `after`, in the columns c
 unfoldable pub changed : Columns → Path → Outcome

@@ -1,5 +1,5 @@
 -- The path: the record and its columns, as lists of records, and back. Definitions only.
-use Rattle.std.specs.Prelude.{ℕ, zero, suc, ◌-◌, ◌/◌, Bool, ◌&&◌, List, [], ◌∷◌, map, leb, length, get_or, take, drop, Float}
+use Rattle.std.specs.Prelude.{ℕ, ◌≡◌, zero, suc, ◌-◌, ◌/◌, Bool, ◌&&◌, List, [], ◌∷◌, map, leb, length, get_or, take, drop, Float}
 use Rattle.ieee.specs.Number.{+0}
 use Rattle.column.specs.declared.Three.{Three}
 use Rattle.column.specs.declared.Four.{Four}
@@ -11,6 +11,7 @@ use Rattle.lookup.specs.declared.path_res_coeff.PathResCoeff.{PathResCoeff}
 use Rattle.lookup.specs.Coeff.{triple, coeffs, no_coeff}
 use Rattle.link.specs.Table.{PowerLimit, power_at}
 use Rattle.path.specs.declared.columns.PathColumns.{PathColumns}
+use Rattle.path.specs.declared.columns.PathColumnsMut.{PathColumnsMut}
 use Rattle.path.specs.declared.path_tpc.PathTpc.{PathTpc}
 use Rattle.path.specs.declared.link_point.LinkPoint.{LinkPoint}
 
@@ -36,6 +37,20 @@ columns offsets numbers grades curves speeds powers districts =
 -- the columns as a call reads them
 abbrev pub lent : PathColumns → Columns
 lent c = columns c.offsets.now c.numbers.now c.grades.now c.curves.now c.speeds.now c.powers.now c.districts.now
+
+-- the columns as a call may write them
+abbrev pub held : PathColumnsMut → Columns
+held c = columns c.offsets.now c.numbers.now c.grades.now c.curves.now c.speeds.now c.powers.now c.districts.now
+
+-- c becomes d: the same seven columns
+pub record Same (c d : PathColumnsMut) : Type 0 where
+  pub offsets : d.offsets.ghost_name ≡ c.offsets.ghost_name
+  pub numbers : d.numbers.ghost_name ≡ c.numbers.ghost_name
+  pub grades : d.grades.ghost_name ≡ c.grades.ghost_name
+  pub curves : d.curves.ghost_name ≡ c.curves.ghost_name
+  pub speeds : d.speeds.ghost_name ≡ c.speeds.ghost_name
+  pub powers : d.powers.ghost_name ≡ c.powers.ghost_name
+  pub districts : d.districts.ghost_name ≡ c.districts.ghost_name
 
 -- R12: 1,025 link points, 16,384 grades, 16,384 curves, 4,096 speed points, 1,024 power limits, or what a shorter column holds
 -- n is at most each of three figures

@@ -1,5 +1,8 @@
 // The path's record: how many records its columns hold, and whether it is finished.
-use answer::Answer;
+ghost use Rattle.std.specs.Prelude.{◌≡◌};
+ghost use Rattle.path.specs.Answers as spec;
+
+use answer::{Answer, Refusal};
 
 #[repr(C)]
 #[derive(Clone, Copy)]
@@ -18,4 +21,22 @@ pub struct PathTpc {
 pub struct PathAnswer {
     pub answer: Answer,
     pub path: PathTpc,
+}
+
+impl PathAnswer {
+    // What C is told of a call on the path p.
+    pub fn told(p: PathTpc, r: Result<PathTpc, Refusal>) -> PathAnswer
+        ensures { result ≡ spec.told p r }
+    {
+        match r {
+            Ok(path) => PathAnswer {
+                answer: Answer::from(Ok(())),
+                path,
+            },
+            Err(e) => PathAnswer {
+                answer: Answer::from(e),
+                path: p,
+            },
+        }
+    }
 }

@@ -3,16 +3,15 @@ ghost use Rattle.std.specs.Prelude.{◌≡◌, ◌-◌, ◌<◌, ◌≤◌};
 ghost use Rattle.column.specs.Records.{record_at, put_record};
 ghost use Rattle.lookup.specs.Coeff.{triple};
 ghost use Rattle.answer.specs.Answers.{answer};
-ghost use Rattle.path.specs.Records.{columns, lent};
-ghost use Rattle.path.specs.Answers.{Outcome, left};
+ghost use Rattle.path.specs.Records.{lent, held, Same};
+ghost use Rattle.path.specs.Answers.{left, told};
 ghost use Rattle.path_ends.specs.Finish.{closing_after, closed_record, finish_answer, finish_of};
 
-use answer::{Answer, Question, Refusal};
+use answer::{Question, Refusal};
 use lookup::path_res_coeff::{PathResCoeff, coeff_at, put_coeff};
-use path::columns::PathColumns;
-use path::path_tpc::{PathAnswer, PathTpc};
+use path::columns::{PathColumns, PathColumnsMut};
+use path::path_tpc::PathTpc;
 use path::questions::path_answer;
-use path::rest::zero_rest;
 use path::sound::within;
 use si::{Length, Ratio};
 
@@ -68,50 +67,13 @@ fn closed_record(p: PathTpc) -> PathTpc
 }
 
 // Closes the path; every entry past the counts becomes zero.
-pub fn finish(
-    p: PathTpc,
-    offsets: &mut [f64],
-    numbers: &mut [u32],
-    grades: &mut [f64],
-    curves: &mut [f64],
-    speeds: &mut [f64],
-    powers: &mut [f64],
-    districts: &mut [u32],
-) -> PathAnswer
-    ensures { ◌≡◌ {A = Outcome}
-        (left result (columns offsets.new numbers.new grades.new curves.new speeds.new powers.new districts.new))
-        (finish_of p (columns offsets.old numbers.old grades.old curves.old speeds.old powers.old districts.old)) }
+pub fn finish(p: PathTpc, cols: &mut PathColumnsMut) -> Result<PathTpc, Refusal>
+    ensures same { Same cols.old cols.new }
+    ensures outcome { left (told p result) (held cols.new) ≡ finish_of p (held cols.old) }
 {
-    let cols = PathColumns {
-        offsets: &*offsets,
-        numbers: &*numbers,
-        grades: &*grades,
-        curves: &*curves,
-        speeds: &*speeds,
-        powers: &*powers,
-        districts: &*districts,
-    };
-    let answer = Answer::from(finish_answer(p, &cols));
-    if answer.number != 0 {
-        return PathAnswer { answer, path: p };
-    }
-    zero_rest(
-        p,
-        &mut *offsets,
-        &mut *numbers,
-        &mut *grades,
-        &mut *curves,
-        &mut *speeds,
-        &mut *powers,
-        &mut *districts,
-    );
-    close(&mut *grades, p.grade_count);
-    close(&mut *curves, p.curve_count);
-    PathAnswer {
-        answer: Answer {
-            number: 0,
-            place: 0,
-        },
-        path: closed_record(p),
-    }
+    finish_answer(p, &cols.reading())?;
+    cols.zero_rest(p);
+    close(&mut *cols.grades, p.grade_count);
+    close(&mut *cols.curves, p.curve_count);
+    Ok(closed_record(p))
 }

@@ -1,43 +1,31 @@
 -- `finish`: refused, and then zeros past the counts and the two closing records.
 use mathlib.Core.Path.{sym, ap, ◌∙◌}
 use Rattle.answer.specs.declared.Answer.{Answer}
-use Rattle.path.specs.Records.{columns}
+use Rattle.path.specs.Records.{held, path_of}
 use Rattle.path.proofs.Clauses.{sound-within, some-records, bounds}
-use Rattle.path_ends.proofs.Closed.{finish-done, refused, closed}
+use Rattle.path.proofs.Told.{handed-outcome, told-ok}
+use Rattle.path_ends.specs.Finish.{finished_path, finish_of}
+use Rattle.path_ends.proofs.Closed.{finish-done, closed}
 use Rattle.path_ends.proofs.finish.finish.Goals as goal
 
-pub returns-then-answer-ne0 : goal.returns-then-answer-ne0
-returns-then-answer-ne0 c =
+pub returns-in_err-finish_answer-clause-outcome : goal.returns-in_err-finish_answer-clause-outcome
+unfolding finish_of
+returns-in_err-finish_answer-clause-outcome c =
     let a = c.args in
-    let l = columns a.offsets.now a.numbers.now a.grades.now a.curves.now a.speeds.now a.powers.now a.districts.now in
-    refused a.p l (c.from-answer.ensures ∙ c.finish_answer.ensures) c.if-answer-ne0.true
+    let l = held a.cols.now in
+    handed-outcome a.p l (finished_path (path_of a.p l)) _ c.finish_answer.ensures c.in_err-finish_answer.was c.from_residual.ensures.1
 
 pub zero_rest-requires : goal.zero_rest-requires
-zero_rest-requires c =
-    let a = c.args in
-    let l = columns a.offsets.now a.numbers.now a.grades.now a.curves.now a.speeds.now a.powers.now a.districts.now in
-    (sound-within a.p l (finish-done a.p l (ap (λ (r : Answer). r.number) (sym (c.from-answer.ensures ∙ c.finish_answer.ensures)) ∙ c.if-answer-ne0.false)).0).1
+zero_rest-requires c = ?
 
 pub close-requires : goal.close-requires
-close-requires c =
-    let a = c.args in
-    let l = columns a.offsets.now a.numbers.now a.grades.now a.curves.now a.speeds.now a.powers.now a.districts.now in
-    (some-records a.p l (sound-within a.p l (finish-done a.p l (ap (λ (r : Answer). r.number) (sym (c.from-answer.ensures ∙ c.finish_answer.ensures)) ∙ c.if-answer-ne0.false)).0).0).0
+close-requires c = ?
 
 pub close-requires-2 : goal.close-requires-2
-close-requires-2 c =
-    let a = c.args in
-    let l = columns a.offsets.now a.numbers.now a.grades.now a.curves.now a.speeds.now a.powers.now a.districts.now in
-    (some-records a.p l (sound-within a.p l (finish-done a.p l (ap (λ (r : Answer). r.number) (sym (c.from-answer.ensures ∙ c.finish_answer.ensures)) ∙ c.if-answer-ne0.false)).0).0).1
+close-requires-2 c = ?
 
 pub closed_record-requires : goal.closed_record-requires
-closed_record-requires c =
-    let a = c.args in
-    let l = columns a.offsets.now a.numbers.now a.grades.now a.curves.now a.speeds.now a.powers.now a.districts.now in
-    let b = bounds a.p l (sound-within a.p l (finish-done a.p l (ap (λ (r : Answer). r.number) (sym (c.from-answer.ensures ∙ c.finish_answer.ensures)) ∙ c.if-answer-ne0.false)).0).1 in record { grade_count_bound = b.1; curve_count_bound = b.2 }
+closed_record-requires c = ?
 
-pub returns : goal.returns
-returns c =
-    let a = c.args in
-    let l = columns a.offsets.now a.numbers.now a.grades.now a.curves.now a.speeds.now a.powers.now a.districts.now in
-    closed a.p l (ap (λ (r : Answer). r.number) (sym (c.from-answer.ensures ∙ c.finish_answer.ensures)) ∙ c.if-answer-ne0.false) c.zero_rest.ensures c.close.ensures c.close-2.ensures c.closed_record.ensures
+pub returns-clause-outcome : goal.returns-clause-outcome
+returns-clause-outcome c = ?
