@@ -11,6 +11,8 @@ use Rattle.link.specs.Train.{length_of, top_speed, towed_mass, mass_per_brake_of
 use Rattle.path.specs.declared.path_tpc.PathTpc.{PathTpc}
 use Rattle.answer.specs.declared.Answer.{Answer}
 use Rattle.path.specs.declared.link_point.LinkPoint.{LinkPoint}
+use Rattle.path.specs.declared.lines.Lines.{Lines}
+use Rattle.path.specs.declared.lines.Lines.TheVariants.{Grades, Curves}
 use Rattle.path.specs.Records.{Columns, fits_links, fits_grades, fits_curves, fits_speeds, fits_powers, link_point, offset_of, grade_count_of, curve_count_of, power_count_of, number_of, Path, link_point_at, end_point, last_coeff, path_of, record_of}
 use Rattle.path.specs.Answers.{ask, in_turn}
 
@@ -120,6 +122,11 @@ sorted_from o (p ∷ ps) = Ieee.eq p.offset o && never_fall p.offset ps
 
 abbrev pub stands_there : List PathResCoeff → ℕ → Float → Bool
 stands_there gs at o = Ieee.eq (offset_at gs at) o
+
+-- grades or curves, as the definitions ask for them
+abbrev pub is_curves : Lines → Bool
+is_curves Grades = false
+is_curves Curves = true
 
 -- how many grades, or curves, a link point has
 abbrev pub count_of : Bool → LinkPoint → ℕ

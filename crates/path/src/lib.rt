@@ -2,6 +2,7 @@
 #![tactic(auto)]
 
 pub mod link_point; // link_point.rs: single link points, and their counts added up
+pub mod lines; // grades or curves
 pub mod path_tpc; // path_tpc.rs: the path's record
 pub mod columns; // the columns that callers lend
 pub mod finite; // question 1

@@ -1,8 +1,9 @@
 // Link points in their two columns: the offset, and four numbers (grade, curve and power count, link number).
 ghost use Rattle.std.specs.Prelude.{◌≡◌, ◌+◌, ◌*◌, ◌≤◌, ◌<◌, length};
 ghost use Rattle.path.specs.Records.{link_points, point_at};
-ghost use Rattle.path.specs.Sound.{totals, count_of};
+ghost use Rattle.path.specs.Sound.{totals, count_of, is_curves};
 
+use crate::lines::Lines;
 use si::Length;
 
 #[repr(C)]
@@ -69,8 +70,11 @@ pub fn add_counts(offsets: &[f64], numbers: &[u32], n: usize) -> LinkPoint
 }
 
 // How many grades or curves a link point has.
-pub fn count_of(p: LinkPoint, curves: bool) -> usize
-    ensures { result ≡ count_of curves p }
+pub fn count_of(p: LinkPoint, lines: Lines) -> usize
+    ensures { result ≡ count_of (is_curves lines) p }
 {
-    if curves { p.curve_count } else { p.grade_count }
+    match lines {
+        Lines::Grades => p.grade_count,
+        Lines::Curves => p.curve_count,
+    }
 }

@@ -18,6 +18,7 @@ use link::train_params::TrainParams;
 use lookup::path_res_coeff::coeff_at;
 use path::columns::PathColumns;
 use path::finite::train_finite;
+use path::lines::Lines;
 use path::link_point::link_point_at;
 use path::links::links_answer;
 use path::path_tpc::{PathAnswer, PathTpc};
@@ -27,7 +28,6 @@ use path_join::fit::records_fit;
 use path_join::join::{join_points, join_powers, join_records, start_net, starting_net};
 use path_join::path_end::{PathEnd, sums_question};
 use path_speeds::add_speeds::lay_links;
-use path_stretches::stretch::Lines;
 use si::Length;
 
 // Question 5 of the listed links: each follows the one before, the first the path's last link where it has one.

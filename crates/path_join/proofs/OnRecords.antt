@@ -18,9 +18,10 @@ use Rattle.link.specs.declared.train_params.TrainParams.{TrainParams}
 use Rattle.link.specs.Lists.{up_from}
 use Rattle.link.specs.Table.{Sample, sample_at, numbers_of}
 use Rattle.path.specs.Records.{last_coeff}
-use Rattle.path_stretches.specs.declared.stretch.Lines.{Lines}
-use Rattle.path_stretches.specs.declared.stretch.Lines.TheVariants.{Grades, Curves}
-use Rattle.path_stretches.specs.Stretches.{is_curves, stretches, stretch_count, lay_stretches, Laid}
+use Rattle.path.specs.declared.lines.Lines.{Lines}
+use Rattle.path.specs.declared.lines.Lines.TheVariants.{Grades, Curves}
+use Rattle.path.specs.Sound.{is_curves}
+use Rattle.path_stretches.specs.Stretches.{stretches, stretch_count, lay_stretches, Laid}
 use Rattle.path_stretches.proofs.StretchSteps.{count-range}
 use Rattle.path_join.specs.Listed.{Rises, length_at, samples_at, records_in, sum_of, grade_end}
 use Rattle.path_join.specs.Joined.{join_records}

@@ -8,9 +8,9 @@ ghost use Rattle.path_join.specs.Walked.{walked};
 
 use link::network::link_numbers;
 use link::train_params::TrainParams;
+use path::lines::Lines;
 use path_speeds::add_speeds::link_finite;
 use path_stretches::powers::powers_finite;
-use path_stretches::stretch::Lines;
 use path_stretches::walk::walk_stretches;
 use si::Length;
 

@@ -18,8 +18,6 @@ use Rattle.link.specs.Train.{curve0, curve1, curve2}
 use Rattle.link.specs.Table.{Sample}
 use Rattle.path.specs.Records.{last_coeff}
 use Rattle.path_stretches.specs.declared.stretch.Stretch.{Stretch}
-use Rattle.path_stretches.specs.declared.stretch.Lines.{Lines}
-use Rattle.path_stretches.specs.declared.stretch.Lines.TheVariants.{Grades, Curves}
 use Rattle.path_stretches.specs.declared.stretch.Reached.{Reached}
 
 -- A stretch gives the record before it a coefficient, or leaves it its own, and adds a record with the coefficient 0 at the stretch's end.
@@ -98,10 +96,6 @@ curve_stretch train base net prior current =
     stretch_of coefficient offset after (turn_finite turn run && (work.finite && all_finite (coefficient ∷ rise ∷ after ∷ offset ∷ [])))
 
 -- ---- the stretches of a link
-
-abbrev pub is_curves : Lines → Bool
-is_curves Grades = false
-is_curves Curves = true
 
 -- of the curves, or of the grades
 abbrev pub stretch_step : Bool → TrainParams → Float → Float → Sample → Sample → Stretch

@@ -8,13 +8,6 @@ use link::elev::{Elev, Heading};
 use link::train_params::TrainParams;
 use si::{Curvature, Length, Ratio};
 
-// The grades of a link, between its elevations, or its curves, between its headings.
-#[derive(Clone, Copy, Debug, PartialEq, Eq)]
-pub enum Lines {
-    Grades,
-    Curves,
-}
-
 // What a stretch adds: a coefficient for the record before (None: that keeps its own), and a record at the stretch's end.
 // `finite` says whether every result on the way is; the record is laid as it is either way.
 #[derive(Clone, Copy)]

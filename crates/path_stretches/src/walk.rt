@@ -8,12 +8,14 @@ ghost use Rattle.lookup.specs.Coeff.{triple, coeffs, res_coeff_record, net_of};
 ghost use Rattle.link.specs.Lists.{up_from};
 ghost use Rattle.link.specs.Table.{sample_at};
 ghost use Rattle.path.specs.Records.{last_coeff};
+ghost use Rattle.path.specs.Sound.{is_curves};
 ghost use Rattle.path_stretches.specs.Stretches as spec;
 
-use crate::stretch::{Lines, Reached, Stretch, curve_stretch, flat_stretch, grade_stretch};
+use crate::stretch::{Reached, Stretch, curve_stretch, flat_stretch, grade_stretch};
 use link::elev::{elev_at, heading_at};
 use link::train_params::TrainParams;
 use lookup::path_res_coeff::coeff_at;
+use path::lines::Lines;
 use si::Length;
 
 // How many records `count` samples give.
@@ -36,7 +38,7 @@ fn stretch_at(
     train: TrainParams,
 ) -> Stretch
     requires { 0 < i }
-    ensures { result ≡ spec.stretch_step (spec.is_curves lines) train base.0 net.0 (sample_at pool.now (i - 1)) (sample_at pool.now i) }
+    ensures { result ≡ spec.stretch_step (is_curves lines) train base.0 net.0 (sample_at pool.now (i - 1)) (sample_at pool.now i) }
 {
     match lines {
         Lines::Grades => grade_stretch(base, net, elev_at(pool, i - 1), elev_at(pool, i)),
@@ -63,7 +65,7 @@ pub fn walk_stretches(
 ) -> Option<Reached>
     requires { first + count < 2 ^ 40 }
     ensures { result ≡ spec.reached base.0 net.0
-        (spec.stretches (spec.is_curves lines) train base.0 net.0 length.0 (up_from (sample_at pool.now) first count)) }
+        (spec.stretches (is_curves lines) train base.0 net.0 length.0 (up_from (sample_at pool.now) first count)) }
 {
     if count == 0 {
         return flat_stretch(base, net, length).end();
@@ -110,7 +112,7 @@ pub fn lay_stretches(
     requires col_value { col.old ≡ filled +0 (list.length col.old) (flat triple (coeffs m col.old)) }
     ensures { spec.Laid col.new result (list.length col.old)
         (spec.lay_stretches (coeffs m col.old)
-        (spec.stretches (spec.is_curves lines) train base.0 (net_of (last_coeff (coeffs m col.old))) length.0
+        (spec.stretches (is_curves lines) train base.0 (net_of (last_coeff (coeffs m col.old))) length.0
         (up_from (sample_at pool.now) first count))) }
 {
     let mut net = coeff_at(&*col, m - 1).res_net;

@@ -2,7 +2,7 @@
 use lib.ListN.{length, drop}
 use Rattle.lookup.specs.Coeff.{coeffs}
 use Rattle.path_join.specs.Listed.{rises}
-use Rattle.path_stretches.specs.Stretches.{is_curves}
+use Rattle.path.specs.Sound.{is_curves}
 use Rattle.path_join.specs.ByKind.{joined_records}
 use Rattle.path_join.proofs.OnRecords.{RecordsLeft}
 use Rattle.path_join.proofs.join.join_records.Given as goal

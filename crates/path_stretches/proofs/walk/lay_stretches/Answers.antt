@@ -4,7 +4,8 @@ use native.Mathlib.Omega.{arith}
 use mathlib.Core.Path.{refl, ◌∙◌}
 use lib.ListN.{length}
 use Rattle.link.specs.Table.{sample_at}
-use Rattle.path_stretches.specs.Stretches.{is_curves, stretch_step}
+use Rattle.path.specs.Sound.{is_curves}
+use Rattle.path_stretches.specs.Stretches.{stretch_step}
 use Rattle.path_stretches.proofs.StretchSteps.{count_none, count-some, count-range}
 use Rattle.path_stretches.proofs.StretchesLaid.{going_start, going_next, going_end, laid-flat, laid-all}
 use Rattle.path_stretches.proofs.walk.lay_stretches.Goals as goal

@@ -4,7 +4,8 @@ use mathlib.Core.Path.{◌≡◌}
 use lib.ListN.{length}
 use Rattle.link.specs.Table.{sample_at}
 use Rattle.lookup.specs.Coeff.{coeffs}
-use Rattle.path_stretches.specs.Stretches.{is_curves, stretch_step, lay_stretches}
+use Rattle.path.specs.Sound.{is_curves}
+use Rattle.path_stretches.specs.Stretches.{stretch_step, lay_stretches}
 use Rattle.path_stretches.proofs.StretchSteps.{stretches_at}
 use Rattle.path_stretches.proofs.StretchesLaid.{Going}
 use Rattle.path_stretches.proofs.walk.lay_stretches.Given as goal

@@ -3,7 +3,8 @@ use Prim.Native.Nat.{◌+◌}
 use native.Mathlib.Omega.{arith}
 use mathlib.Core.Path.{refl, sym, ap, ◌∙◌}
 use Rattle.link.specs.Table.{sample_at}
-use Rattle.path_stretches.specs.Stretches.{is_curves, stretch_step, end_of, reached}
+use Rattle.path.specs.Sound.{is_curves}
+use Rattle.path_stretches.specs.Stretches.{stretch_step, end_of, reached}
 use Rattle.path_stretches.proofs.StretchSteps.{stretches-flat, stretches-all, walk_more, walk_not, walk_none, walk-flat}
 use Rattle.path_stretches.proofs.walk.walk_stretches.Goals as goal
 

@@ -2,7 +2,8 @@
 use Prim.Native.Nat.{◌+◌}
 use mathlib.Core.Path.{◌≡◌}
 use Rattle.link.specs.Table.{sample_at}
-use Rattle.path_stretches.specs.Stretches.{is_curves, stretch_step, reached}
+use Rattle.path.specs.Sound.{is_curves}
+use Rattle.path_stretches.specs.Stretches.{stretch_step, reached}
 use Rattle.path_stretches.proofs.StretchSteps.{stretches_at}
 use Rattle.path_stretches.proofs.walk.walk_stretches.Given as goal
 
