@@ -21,7 +21,7 @@ use Rattle.answer.specs.Answers.{done}
 use Rattle.path.specs.Answers.{ask, left}
 use Rattle.path.specs.Sound.{sound, path_answer, is_open}
 use Rattle.path.proofs.ReadBack.{counted}
-use Rattle.path.proofs.InTurn.{turn-no, turn-yes, turn-done, first-no, first-yes, first_done, last_one, judged-done, outcome-refused, outcome-done}
+use Rattle.path.proofs.InTurn.{turn-no, turn-yes, turn-done, first-no, first-yes, first_done, last_one, judged-done, outcome-done}
 use Rattle.path.proofs.Clauses.{within_all, times, sound-within, some-records, bounds}
 use Rattle.path_ends.specs.Finish.{closing, closing_after, closed_record, finished_path, finish_answer, finish_of}
 
@@ -85,27 +85,21 @@ module _ (p : PathTpc) (c : Columns) where
           (b.1, b.2)
 
   -- what a call that is not refused knows
-  pub finish-done : (finish_answer p c).number ≡ 0 → (sound p c ≡ true) × (fits ≡ true)
+  pub finish-done : done ≡ finish_answer p c → (sound p c ≡ true) × (fits ≡ true)
   unfolding finish_answer
   finish-done e =
-      let first = turn-done (path_answer true p c) after2 e in
+      let first = turn-done (path_answer true p c) after2 (ap (λ (a : Answer). a.number) (sym e)) in
       let third = first_done 2 after3 (is_open p) first.1 in
       ((judged-done true p c refl first.0).2, (first_done 8 [] fits third.1).0)
 
   -- ---- what is left
-  pub refused : {a : Answer} → a ≡ finish_answer p c → (a.number ≡ 0 → ⊥) → left (record { answer = a; path = p }) c ≡ finish_of p c
-  unfolding finish_of
-  refused e h =
-      ap (λ (b : Answer). left (record { answer = b; path = p }) c) e
-      ∙ sym (outcome-refused (finish_answer p c) p c (finished_path (path_of p c)) (λ k. h (ap (λ (b : Answer). b.number) e ∙ k)))
-
   counts : record_of (finished_path (path_of p c)) ≡ closed_record p
   unfolding record_of finished_path
   counts = cc (counted p c, length-closing (path_of p c).grades, length-closing (path_of p c).curves)
 
   pub closed :
       {q : PathTpc} {os gs ks ss ws gs' ks' : List Float} {ns ds : List ℕ}
-      → (finish_answer p c).number ≡ 0
+      → done ≡ finish_answer p c
       → columns os ns gs ks ss ws ds ≡ columns_of c (path_of p c)
       → gs' ≡ put_record triple gs p.grade_count (closing_after (record_at triple gs (p.grade_count - 1)))
       → ks' ≡ put_record triple ks p.curve_count (closing_after (record_at triple ks (p.curve_count - 1)))
@@ -121,4 +115,4 @@ module _ (p : PathTpc) (c : Columns) where
       let g' = closed_at (length c.grades) p.grade_count _ (coeffs p.grade_count c.grades) (length-records triple triple-lawful p.grade_count c.grades) (ap (λ (l : Columns). l.grades) e) some.0 (times 3 _ _ room-g) in
       let k' = closed_at (length c.curves) p.curve_count _ (coeffs p.curve_count c.curves) (length-records triple triple-lawful p.curve_count c.curves) (ap (λ (l : Columns). l.curves) e) some.1 (times 3 _ _ room-k) in
       let cols = ap (with_records _ _) e ∙ ap₂ (λ (a b : List Float). with_records a b (columns_of c (path_of p c))) (g ∙ g') (k ∙ k') in
-      ap₂ (λ (q : PathTpc) (l : Columns). left (record { answer = done; path = q }) l) (r ∙ sym counts) cols ∙ sym (outcome-done (finish_answer p c) p c (finished_path (path_of p c)) h)
+      ap₂ (λ (q : PathTpc) (l : Columns). left (record { answer = done; path = q }) l) (r ∙ sym counts) cols ∙ sym (outcome-done (finish_answer p c) p c (finished_path (path_of p c)) (ap (λ (a : Answer). a.number) (sym h)))

@@ -1,6 +1,5 @@
 -- `new`: refused, and done.
 use Prim.Native.Nat.{ℕ}
-use native.Mathlib.Omega.{arith}
 use mathlib.Core.Path.{◌≡◌, sym, ap, ◌∙◌}
 use mathlib.Core.Bool.{Bool, true, false}
 use mathlib.Core.List.{List, [], ◌∷◌}
@@ -14,32 +13,19 @@ use Rattle.link.specs.declared.train_params.TrainParams.{TrainParams}
 use Rattle.link.specs.Train.{top_speed}
 use Rattle.path.specs.declared.path_tpc.PathTpc.{PathTpc}
 use Rattle.answer.specs.declared.Answer.{Answer}
-use Rattle.path.specs.declared.path_tpc.PathAnswer.{PathAnswer}
 use Rattle.path.specs.Records.{Columns, columns, columns_of, record_of}
 use Rattle.answer.specs.Answers.{done}
-use Rattle.path.specs.Answers.{ask, outcome, left}
+use Rattle.path.specs.Answers.{ask, left}
 use Rattle.path.specs.Sound.{train_finite, within_bounds}
-use Rattle.path.proofs.InTurn.{first-no, first-yes, last_one, outcome-refused, outcome-done}
+use Rattle.path.proofs.InTurn.{first-no, first-yes, last_one, outcome-done}
 use Rattle.path.proofs.Clauses.{room}
-use Rattle.path_ends.specs.New.{new_path, start, new_answer, no_path, refused_new, new_of}
+use Rattle.path_ends.specs.New.{new_path, start, new_answer, no_path, new_of}
 
 module _ (train : TrainParams) (c : Columns) where
-  -- what is left where the answer is a, and where it is done
-  answered : {a : Answer} → new_answer train c ≡ a → (a.number ≡ 0 → ⊥) → new_of train c ≡ left (record { answer = a; path = no_path }) c
-  unfolding new_of
-  answered e h = ap (λ (b : Answer). outcome b no_path c (new_path train)) e ∙ outcome-refused _ no_path c (new_path train) h
-
-  refused-1 : train_finite train ≡ false → new_of train c ≡ left (refused_new 1) c
-  unfolding new_answer
-  refused-1 e = answered (first-no 0 (ask 9 (within_bounds start c) ∷ []) e) (λ h. omega arith)
-
   module _ (t : train_finite train ≡ true) where
     room-asked : new_answer train c ≡ ask 9 (within_bounds start c)
     unfolding new_answer
     room-asked = first-yes 0 (ask 9 (within_bounds start c) ∷ []) t ∙ last_one 8 (within_bounds start c)
-
-    refused-9 : within_bounds start c ≡ false → new_of train c ≡ left (refused_new 9) c
-    refused-9 e = answered (room-asked ∙ ap (ask 9) e) (λ h. omega arith)
 
     made : within_bounds start c ≡ true → new_of train c ≡ left (record { answer = done; path = start }) (columns_of c (new_path train))
     unfolding new_of record_of new_path
@@ -66,15 +52,16 @@ module _ (train : TrainParams) (c : Columns) where
 
   -- ---- as the code has it: t and u are the answers of the two questions
   module _ {t : Bool} (one : t ≡ train_finite train) where
-    pub refused-by-1 : {r : PathAnswer} → t ≡ false → r ≡ refused_new 1 → left r c ≡ new_of train c
-    refused-by-1 h e = ap (λ (a : PathAnswer). left a c) e ∙ sym (refused-1 (sym one ∙ h))
+    pub asked-1 : t ≡ false → ask 1 t ≡ new_answer train c
+    unfolding new_answer
+    asked-1 h = ap (ask 1) h ∙ sym (first-no 0 (ask 9 (within_bounds start c) ∷ []) (sym one ∙ h))
 
     module _ {u : Bool} {p : PathTpc} (yes : t ≡ true) (record_is : p ≡ start) (nine : u ≡ within_bounds p c) where
-      within-start : {v : Bool} → u ≡ v → within_bounds start c ≡ v
-      within-start e = ap (λ (q : PathTpc). within_bounds q c) (sym record_is) ∙ sym nine ∙ e
+      within-start : u ≡ within_bounds start c
+      within-start = nine ∙ ap (λ (q : PathTpc). within_bounds q c) record_is
 
-      pub refused-by-9 : {r : PathAnswer} → u ≡ false → r ≡ refused_new 9 → left r c ≡ new_of train c
-      refused-by-9 h e = ap (λ (a : PathAnswer). left a c) e ∙ sym (refused-9 (sym one ∙ yes) (within-start h))
+      pub asked-9 : ask 9 u ≡ new_answer train c
+      asked-9 = ap (ask 9) within-start ∙ sym (room-asked (sym one ∙ yes))
 
       pub made_by :
           {os gs ks ss ws ps : List Float} {ns ds : List ℕ}
@@ -89,5 +76,5 @@ module _ (train : TrainParams) (c : Columns) where
           → ds ≡ zero_from 0 0 c.districts
           → left (record { answer = done; path = p }) (columns os ns gs ks ps ws ds) ≡ new_of train c
       made_by v e₁ e₂ e₃ e₄ e₅ e₆ e₇ e₈ =
-          let w = within-start v in
+          let w = sym within-start ∙ v in
           cc (made (sym one ∙ yes) w, zeroed w, record_is, e₁, e₂, e₃, e₄, e₅, e₆, e₇, e₈)

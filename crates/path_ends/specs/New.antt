@@ -1,5 +1,5 @@
 -- `new`, R37: path_tpc.rs. Definitions only.
-use Rattle.std.specs.Prelude.{ℕ, false, [], ◌∷◌}
+use Rattle.std.specs.Prelude.{false, [], ◌∷◌}
 use Rattle.ieee.specs.Number.{+0}
 use Rattle.speed.specs.Points.{point}
 use Rattle.lookup.specs.Coeff.{no_coeff}
@@ -7,7 +7,6 @@ use Rattle.link.specs.declared.train_params.TrainParams.{TrainParams}
 use Rattle.link.specs.Train.{top_speed}
 use Rattle.path.specs.declared.path_tpc.PathTpc.{PathTpc}
 use Rattle.answer.specs.declared.Answer.{Answer}
-use Rattle.path.specs.declared.path_tpc.PathAnswer.{PathAnswer}
 use Rattle.path.specs.Records.{Columns, Path, no_link_point}
 use Rattle.path.specs.Answers.{ask, in_turn, Outcome, outcome}
 use Rattle.path.specs.Sound.{train_finite, within_bounds}
@@ -35,9 +34,6 @@ new_answer train c = in_turn (ask 1 (train_finite train) ∷ ask 9 (within_bound
 -- a refused `new` has no path
 abbrev pub no_path : PathTpc
 no_path = record { link_count = 0; grade_count = 0; curve_count = 0; speed_count = 0; power_count = 0; is_finished = false }
-
-abbrev pub refused_new : ℕ → PathAnswer
-refused_new number = record { answer = record { number = number; place = 0 }; path = no_path }
 
 unfoldable pub new_of : TrainParams → Columns → Outcome
 unfolding new_answer new_path

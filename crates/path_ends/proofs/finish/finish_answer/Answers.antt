@@ -1,7 +1,7 @@
 -- `finish_answer`: the questions in their order.
 use native.Mathlib.Omega.{arith}
 use mathlib.Core.Path.{sym, ap, ap₂, ◌∙◌, refl}
-use mathlib.Core.Bool.{not, ◌&&◌}
+use mathlib.Core.Bool.{◌&&◌}
 use Rattle.path.specs.Records.{lent}
 use Rattle.path.specs.Answers.{ask}
 use Rattle.path_ends.proofs.Closed.{finish-first, finish-3, finish-9, few-records}
