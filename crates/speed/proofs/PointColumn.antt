@@ -31,8 +31,8 @@ pub length-points : (n : ℕ) (c : List Float) → length (points n c) ≡ n
 length-points n c = length-records pair pair-lawful n c
 
 -- a list that is the first n points of a column has n points
-pub count-of : (n : ℕ) (c : List Float) (ps : List Point) → points n c ≡ ps → n ≡ length ps
-count-of n c ps e = sym (length-points n c) ∙ ap length e
+pub count_is : (n : ℕ) (c : List Float) (ps : List Point) → points n c ≡ ps → n ≡ length ps
+count_is n c ps e = sym (length-points n c) ∙ ap length e
 
 -- ---- reads
 
@@ -66,8 +66,8 @@ holds-again c ps n h e = subst (Holds c) (sym (holds-points c ps n h e)) h
 -- ---- changes
 
 module _ (c : List Float) (n : ℕ) (held : Holds c (points n c)) where
-  pub fits-points : 2 * n ≤ length c
-  fits-points = omega (arith, held.fits, length-points n c)
+  pub fits_points : 2 * n ≤ length c
+  fits_points = omega (arith, held.fits, length-points n c)
 
   -- two stores
   stored : (i : ℕ) (p : Point) → i < n → Holds (set (set c (2 * i) p.offset) (2 * i + 1) p.speed) (set (points n c) i p)
@@ -75,7 +75,7 @@ module _ (c : List Float) (n : ℕ) (held : Holds c (points n c)) where
   stored i p h =
       let ps = points n c in
       let l = length-points n c in
-      holds_of c _ (set ps i p) (omega (arith, fits-points, length-set ps i p))
+      holds_of c _ (set ps i p) (omega (arith, fits_points, length-set ps i p))
       (sym (two-put c i (record { 0 = p.offset; 1 = p.speed }))
       ∙ ap (λ (l : List Float). put_record pair l i p) held.is
       ∙ put-filled pair pair-lawful +0 (length c) ps i p (omega arith))
@@ -83,14 +83,14 @@ module _ (c : List Float) (n : ℕ) (held : Holds c (points n c)) where
   pub offset-stored : (i : ℕ) (o : Float) → i < n → Holds (set c (2 * i) o) (set_offset i o (points n c))
   offset-stored i o h =
       let v = speed_at (points n c) i in
-      let other : v ≡ get_or (set c (2 * i) o) (2 * i + 1) nan = sym (get_or-set_other c (2 * i) (2 * i + 1) o nan (λ e. omega arith) ∙ read-speed n c i h fits-points) in
+      let other : v ≡ get_or (set c (2 * i) o) (2 * i + 1) nan = sym (get_or-set_other c (2 * i) (2 * i + 1) o nan (λ e. omega arith) ∙ read-speed n c i h fits_points) in
       let same : set (set c (2 * i) o) (2 * i + 1) v ≡ set c (2 * i) o = ap (set (set c (2 * i) o) (2 * i + 1)) other ∙ set-get_or (set c (2 * i) o) (2 * i + 1) nan in
       subst (λ (d : List Float). Holds d (set_offset i o (points n c))) same (stored i (point o v) h)
 
   pub speed-stored : (i : ℕ) (v : Float) → i < n → Holds (set c (2 * i + 1) v) (set_speed i v (points n c))
   speed-stored i v h =
       let o = offset_at (points n c) i in
-      let same : set c (2 * i) o ≡ c = ap (set c (2 * i)) (sym (read-offset n c i h fits-points)) ∙ set-get_or c (2 * i) nan in
+      let same : set c (2 * i) o ≡ c = ap (set c (2 * i)) (sym (read-offset n c i h fits_points)) ∙ set-get_or c (2 * i) nan in
       subst (λ (d : List Float). Holds (set d (2 * i + 1) v) (set_speed i v (points n c))) same (stored i (point o v) h)
 
   pub inserted : (i : ℕ) (r : Two) → i ≤ n → 2 * (n + 1) ≤ length c → Holds (put_record two (open_gap (2 * i) (2 * n) 2 c) i r) (insert_at i (point r.0 r.1) (points n c))
@@ -122,7 +122,7 @@ module _ (c : List Float) (n : ℕ) (held : Holds c (points n c)) where
   removed i h =
       let ps = points n c in
       let l = length-points n c in
-      holds_of c _ (remove_at i ps) (omega (arith, fits-points, length_removed i ps (omega arith)))
+      holds_of c _ (remove_at i ps) (omega (arith, fits_points, length_removed i ps (omega arith)))
       (ap (close_gap +0 (2 * i) (2 * n) 2) held.is
       ∙ ap (λ (k : ℕ). close_gap +0 (2 * i) (2 * k) 2 (filled +0 (length c) (flat pair ps))) (sym l)
       ∙ remove-filled pair pair-lawful +0 (length c) ps i nowhere (omega arith) (omega (arith, held.fits)))
@@ -180,7 +180,7 @@ next-two c d n i p q h =
 
 -- a lent column leaves the points that it holds
 pub leaves-of : (d : SpeedColumn) (ps : List Point) → points_of d ≡ ps → Leaves d.col.now d.count ps
-leaves-of d ps e = record { count = count-of d.count d.col.now ps e; holds = subst (Holds d.col.now) e d.holds }
+leaves-of d ps e = record { count = count_is d.count d.col.now ps e; holds = subst (Holds d.col.now) e d.holds }
 
 -- ---- one change after another
 

@@ -28,6 +28,7 @@ impl SpeedColumn<'_> {
     }
 
     // Moves point i to another offset.
+    #[tactic(auto, using(crate::proofs::PointColumn::fits_points))]
     pub fn set_offset(&mut self, i: usize, o: Length)
         requires { i < self.old.count }
         ensures becomes { Becomes self.old self.new (set_offset i o.0 (points_of self.old)) }
@@ -37,6 +38,7 @@ impl SpeedColumn<'_> {
     }
 
     // Gives point i another speed.
+    #[tactic(auto, using(crate::proofs::PointColumn::fits_points))]
     pub fn set_speed(&mut self, i: usize, v: Velocity)
         requires { i < self.old.count }
         ensures becomes { Becomes self.old self.new (set_speed i v.0 (points_of self.old)) }
@@ -73,6 +75,7 @@ impl SpeedColumn<'_> {
     }
 
     // Takes point i out.
+    #[tactic(auto, using(crate::proofs::PointColumn::fits_points))]
     pub fn remove_point(&mut self, i: usize)
         requires { i < self.old.count }
         ensures becomes { Becomes self.old self.new (remove_at i (points_of self.old)) }

@@ -57,6 +57,7 @@ impl<'a> SpeedPoints<'a> {
     }
 
     // The offset of point i.
+    #[tactic(auto, using(crate::proofs::PointColumn::count_is))]
     pub fn offset_at(&self, i: usize) -> Length
         requires { i < length self.now }
         ensures { result.0 ≡ offset_at self.now i }
@@ -66,6 +67,7 @@ impl<'a> SpeedPoints<'a> {
     }
 
     // The speed of point i.
+    #[tactic(auto, using(crate::proofs::PointColumn::count_is))]
     pub fn speed_at(&self, i: usize) -> Velocity
         requires { i < length self.now }
         ensures { result.0 ≡ speed_at self.now i }

@@ -5,7 +5,7 @@ use native.Mathlib.Omega.{arith}
 use lib.ListN.{length}
 use Rattle.std.proofs.Common.{rules}
 use Rattle.speed.specs.Column.{points}
-use Rattle.speed.proofs.PointColumn.{length-points, fits-points, leaves_at, leaves-of}
+use Rattle.speed.proofs.PointColumn.{length-points, fits_points, leaves_at, leaves-of}
 use Rattle.original.proofs.Followed.{none-held, none_kept, follow-none, follow-full, follow_one}
 use Rattle.original.proofs.run.follow.Goals as goal
 
@@ -17,7 +17,7 @@ returns-then-m-eq0 c =
     (sym (follow-none (length a.col.now) ps _ _ _ (length-points a.m a.col.now ∙ c.if-m-eq0.true)))
 
 pub overflow_add-m : goal.overflow_add-m
-overflow_add-m c = omega (arith, fits-points c.args.col.now c.args.m c.requires)
+overflow_add-m c = omega (arith, fits_points c.args.col.now c.args.m c.requires)
 
 pub returns-then-col-m : goal.returns-then-col-m
 returns-then-col-m c =

@@ -1,14 +1,7 @@
 -- `remove_point`: the two entries of a point go out.
 use mathlib.Core.Path.{refl}
-use native.Mathlib.Omega.{arith}
-use Rattle.speed.proofs.PointColumn.{fits-points, removed, next-removed}
+use Rattle.speed.proofs.PointColumn.{removed, next-removed}
 use Rattle.speed.proofs.speed_column.SpeedColumn.remove_point.Goals as goal
-
-pub overflow_mul-i : goal.overflow_mul-i
-overflow_mul-i c = let s = c.args.self.now in omega (arith, fits-points s.col.now s.count s.holds)
-
-pub overflow_mul-self : goal.overflow_mul-self
-overflow_mul-self c = let s = c.args.self.now in omega (arith, fits-points s.col.now s.count s.holds)
 
 pub invariant_of-self : goal.invariant_of-self
 invariant_of-self c =

@@ -1,20 +1,10 @@
 -- `set_offset`: one store, to the first entry of a point.
 use mathlib.Core.Path.{refl}
-use native.Mathlib.Omega.{arith}
 use lib.ListN.{length-set}
 use Rattle.speed.specs.Points.{point, speed_at}
 use Rattle.speed.specs.Column.{points}
-use Rattle.speed.proofs.PointColumn.{fits-points, offset-stored, next-set}
+use Rattle.speed.proofs.PointColumn.{offset-stored, next-set}
 use Rattle.speed.proofs.speed_column.SpeedColumn.set_offset.Goals as goal
-
-pub overflow_mul-self : goal.overflow_mul-self
-overflow_mul-self c = let s = c.args.self.now in omega (arith, fits-points s.col.now s.count s.holds)
-
-pub offset_bounds-self-i : goal.offset_bounds-self-i
-offset_bounds-self-i c = let s = c.args.self.now in omega (arith, fits-points s.col.now s.count s.holds)
-
-pub bounds-self-i : goal.bounds-self-i
-bounds-self-i c = let s = c.args.self.now in omega (arith, fits-points s.col.now s.count s.holds)
 
 pub invariant_of-self : goal.invariant_of-self
 invariant_of-self c =

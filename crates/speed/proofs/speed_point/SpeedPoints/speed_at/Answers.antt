@@ -3,23 +3,11 @@ use mathlib.Core.Path.{ap, ◌∙◌}
 use native.Mathlib.Omega.{arith}
 use mathlib.Core.List.{List}
 use Rattle.speed.specs.Points.{Point, speed_at}
-use Rattle.speed.proofs.PointColumn.{count-of, read-speed}
+use Rattle.speed.proofs.PointColumn.{count_is, read-speed}
 use Rattle.speed.proofs.speed_point.SpeedPoints.speed_at.Goals as goal
-
-pub overflow_mul-result : goal.overflow_mul-result
-overflow_mul-result c = omega (arith, c.self.invariant, count-of c.self.inside.count c.self.inside.col.now c.args.self.now c.self.view_is)
-
-pub overflow_add-result : goal.overflow_add-result
-overflow_add-result c = omega (arith, c.self.invariant, count-of c.self.inside.count c.self.inside.col.now c.args.self.now c.self.view_is)
-
-pub offset_bounds-col-i : goal.offset_bounds-col-i
-offset_bounds-col-i c = omega (arith, c.self.invariant, count-of c.self.inside.count c.self.inside.col.now c.args.self.now c.self.view_is)
-
-pub bounds-col-i : goal.bounds-col-i
-bounds-col-i c = omega (arith, c.self.invariant, count-of c.self.inside.count c.self.inside.col.now c.args.self.now c.self.view_is)
 
 pub returns : goal.returns
 returns c =
     let p = c.self.inside in
-    let n = count-of p.count p.col.now c.args.self.now c.self.view_is in
+    let n = count_is p.count p.col.now c.args.self.now c.self.view_is in
     read-speed p.count p.col.now c.args.i (omega arith) c.self.invariant ∙ ap (λ (ps : List Point). speed_at ps c.args.i) c.self.view_is
