@@ -17,14 +17,13 @@ use Rattle.link.specs.Lists.{first_no}
 use Rattle.link.specs.Questions.{numbers}
 use Rattle.path.specs.declared.path_tpc.PathTpc.{PathTpc}
 use Rattle.answer.specs.declared.Answer.{Answer}
-use Rattle.path.specs.declared.path_tpc.PathAnswer.{PathAnswer}
 use Rattle.path.specs.declared.link_point.LinkPoint.{LinkPoint}
 use Rattle.path.specs.Records.{Columns, columns, offset_of, four_of, number_of, link_points, beginnings, path_of, columns_of, record_of}
 use Rattle.answer.specs.Answers.{done}
 use Rattle.path.specs.Answers.{ask_each, left}
 use Rattle.path.specs.Sound.{sound, one_of_each, within_bounds, path_answer}
 use Rattle.path.proofs.ReadBack.{counted, link-fours}
-use Rattle.path.proofs.InTurn.{turn-no, turn-yes, turn-done, turn-none, last-each, judged-done, outcome-refused, outcome-done}
+use Rattle.path.proofs.InTurn.{turn-no, turn-yes, turn-done, last-each, judged-done, outcome-done}
 use Rattle.path.proofs.Clauses.{sound-within, some-link, room}
 use Rattle.path_reindex.specs.Reindex.{new_number, renumbers, renumbered_from, renumbered, reindexed_path, reindex_answer, reindex_of}
 use Rattle.path_reindex.specs.Fours.{renumbered_fours, fours_column}
@@ -107,51 +106,40 @@ module _ (new : List ℕ) (p : PathTpc) (c : Columns) where
           ∙ ap (ask_each 4) (ap (λ (ns : List ℕ). first_no (map (renumbers new) ns)) (present-numbers p c) ∙ sym g)
 
   -- what a call that is not refused knows
-  reindex-done : (reindex_answer new p c).number ≡ 0 → (sound p c ≡ true) × (reindex_answer new p c ≡ done)
+  reindex-done : done ≡ reindex_answer new p c → sound p c ≡ true
   unfolding reindex_answer
-  reindex-done e = ((judged-done true p c refl (turn-done (path_answer true p c) fourth e).0).2, turn-none (path_answer true p c ∷ fourth) e)
+  reindex-done e = (judged-done true p c refl (turn-done (path_answer true p c) fourth (ap (λ (a : Answer). a.number) (sym e))).0).2
 
   counts : record_of (reindexed_path new (path_of p c)) ≡ p
   unfolding record_of reindexed_path
   counts = cc (counted p c, length-renumbered new (path_of p c).links)
 
-  -- ---- what is left
-  -- r is the code's answer to all the questions
-  module _ {r : Answer} (e : r ≡ reindex_answer new p c) where
-    pub refused : (r.number ≡ 0 → ⊥) → left (record { answer = r; path = p }) c ≡ reindex_of new p c
-    unfolding reindex_of
-    refused h =
-        ap (λ (a : Answer). left (record { answer = a; path = p }) c) e
-        ∙ sym (outcome-refused (reindex_answer new p c) p c (reindexed_path new (path_of p c)) (λ k. h (ap (λ (a : Answer). a.number) e ∙ k)))
+  -- ---- what is left where the call is done
+  module _ (e : done ≡ reindex_answer new p c) where
+    sizes : (one_of_each p ≡ true) × (within_bounds p c ≡ true)
+    sizes = sound-within p c (reindex-done e)
 
-    module _ (t : r.number ≡ 0) where
-      done-number : (reindex_answer new p c).number ≡ 0
-      done-number = ap (λ (a : Answer). a.number) (sym e) ∙ t
+    pub within : within_bounds p c ≡ true
+    within = sizes.1
 
-      sizes : (one_of_each p ≡ true) × (within_bounds p c ≡ true)
-      sizes = sound-within p c (reindex-done done-number).0
+    -- the columns after `zero_rest`
+    module _ {os gs ks ss ws : List Float} {ns ds : List ℕ} (zeroed : columns os ns gs ks ss ws ds ≡ columns_of c (path_of p c)) where
+      tidied : ns ≡ tidy p.link_count c.numbers (room p c within).numbers
+      unfolding columns_of path_of
+      tidied = ap (λ (l : Columns). l.numbers) zeroed ∙ ap (fours_column (length c.numbers)) (link-fours p.link_count c.offsets c.numbers)
 
-      pub within : within_bounds p c ≡ true
-      within = sizes.1
+      pub ready : (0 < p.link_count) × (ns ≡ fours_column (length ns) (records four p.link_count ns))
+      ready = (some-link p c sizes.0, holds p.link_count c.numbers (room p c within).numbers tidied)
 
-      -- the columns after `zero_rest`
-      module _ {os gs ks ss ws : List Float} {ns ds : List ℕ} (zeroed : columns os ns gs ks ss ws ds ≡ columns_of c (path_of p c)) where
-        tidied : ns ≡ tidy p.link_count c.numbers (room p c within).numbers
-        unfolding columns_of path_of
-        tidied = ap (λ (l : Columns). l.numbers) zeroed ∙ ap (fours_column (length c.numbers)) (link-fours p.link_count c.offsets c.numbers)
-
-        pub ready : (0 < p.link_count) × (ns ≡ fours_column (length ns) (records four p.link_count ns))
-        ready = (some-link p c sizes.0, holds p.link_count c.numbers (room p c within).numbers tidied)
-
-        pub reindexed :
-            {ns' : List ℕ}
-            → ns' ≡ fours_column (length ns) (renumbered_fours new (records four p.link_count ns))
-            → left (record { answer = r; path = p }) (columns os ns' gs ks ss ws ds) ≡ reindex_of new p c
-        unfolding reindex_of columns_of reindexed_path path_of
-        reindexed g =
-            let after = columns_of c (path_of p c) in
-            let offsets = ap (filled +0 (length c.offsets)) (sym (same-offsets new (path_of p c).links)) in
-            let numbers = holds-new p.link_count c.numbers (room p c within).numbers new c.offsets tidied g in
-            let cols = ap (with_numbers _) zeroed ∙ ap₂ (λ (o : List Float) (n : List ℕ). columns o n after.grades after.curves after.speeds after.powers after.districts) offsets numbers in
-            let answer = ap₂ {C = PathAnswer} (λ (a : Answer) (q : PathTpc). record { answer = a; path = q }) (e ∙ (reindex-done done-number).1) (sym counts) in
-            ap₂ left answer cols ∙ sym (outcome-done (reindex_answer new p c) p c (reindexed_path new (path_of p c)) done-number)
+      pub reindexed :
+          {ns' : List ℕ}
+          → ns' ≡ fours_column (length ns) (renumbered_fours new (records four p.link_count ns))
+          → left (record { answer = done; path = p }) (columns os ns' gs ks ss ws ds) ≡ reindex_of new p c
+      unfolding reindex_of columns_of reindexed_path path_of
+      reindexed g =
+          let after = columns_of c (path_of p c) in
+          let offsets = ap (filled +0 (length c.offsets)) (sym (same-offsets new (path_of p c).links)) in
+          let numbers = holds-new p.link_count c.numbers (room p c within).numbers new c.offsets tidied g in
+          let cols = ap (with_numbers _) zeroed ∙ ap₂ (λ (o : List Float) (n : List ℕ). columns o n after.grades after.curves after.speeds after.powers after.districts) offsets numbers in
+          ap₂ (λ (q : PathTpc) (l : Columns). left (record { answer = done; path = q }) l) (sym counts) cols
+          ∙ sym (outcome-done (reindex_answer new p c) p c (reindexed_path new (path_of p c)) (ap (λ (a : Answer). a.number) (sym e)))

@@ -4,18 +4,17 @@ ghost use Rattle.column.specs.Records.{records, record_at, put_record, four};
 ghost use Rattle.link.specs.Lists.{first_no};
 ghost use Rattle.link.specs.Questions as questions;
 ghost use Rattle.answer.specs.Answers.{answer};
-ghost use Rattle.path.specs.Records.{columns, lent};
-ghost use Rattle.path.specs.Answers.{Outcome, left};
+ghost use Rattle.path.specs.Records.{lent, held, Same};
+ghost use Rattle.path.specs.Answers.{left, told};
 ghost use Rattle.path_reindex.specs.Reindex as spec;
 ghost use Rattle.path_reindex.specs.Fours as fours;
 
-use answer::{Answer, Question, Refusal};
+use answer::{Question, Refusal};
 use column::{Four, get, put_record, record_at};
 use link::questions::number_at;
-use path::columns::PathColumns;
-use path::path_tpc::{PathAnswer, PathTpc};
+use path::columns::{PathColumns, PathColumnsMut};
+use path::path_tpc::PathTpc;
 use path::questions::path_answer;
-use path::rest::zero_rest;
 
 // Question 4 of a link number: the list has a number for it, and not 0.
 fn renumbers(new: &[u32], n: u32) -> bool
@@ -73,44 +72,12 @@ fn renumber(numbers: &mut [u32], n: usize, new: &[u32])
 }
 
 // Other numbers for the links, the end point's the last link's.
-pub fn reindex(
-    p: PathTpc,
-    new: &[u32],
-    offsets: &mut [f64],
-    numbers: &mut [u32],
-    grades: &mut [f64],
-    curves: &mut [f64],
-    speeds: &mut [f64],
-    powers: &mut [f64],
-    districts: &mut [u32],
-) -> PathAnswer
-    ensures { ◌≡◌ {A = Outcome}
-        (left result (columns offsets.new numbers.new grades.new curves.new speeds.new powers.new districts.new))
-        (spec.reindex_of new.now p (columns offsets.old numbers.old grades.old curves.old speeds.old powers.old districts.old)) }
+pub fn reindex(p: PathTpc, new: &[u32], cols: &mut PathColumnsMut) -> Result<PathTpc, Refusal>
+    ensures same { Same cols.old cols.new }
+    ensures outcome { left (told p result) (held cols.new) ≡ spec.reindex_of new.now p (held cols.old) }
 {
-    let cols = PathColumns {
-        offsets: &*offsets,
-        numbers: &*numbers,
-        grades: &*grades,
-        curves: &*curves,
-        speeds: &*speeds,
-        powers: &*powers,
-        districts: &*districts,
-    };
-    let answer = Answer::from(reindex_answer(p, new, &cols));
-    if answer.number != 0 {
-        return PathAnswer { answer, path: p };
-    }
-    zero_rest(
-        p,
-        &mut *offsets,
-        &mut *numbers,
-        &mut *grades,
-        &mut *curves,
-        &mut *speeds,
-        &mut *powers,
-        &mut *districts,
-    );
-    renumber(&mut *numbers, p.link_count, new);
-    PathAnswer { answer, path: p }
+    reindex_answer(p, new, &cols.reading())?;
+    cols.zero_rest(p);
+    renumber(&mut *cols.numbers, p.link_count, new);
+    Ok(p)
 }
