@@ -1,7 +1,7 @@
 // `posted_speed`: the speed of the last speed point at or before an offset.
 ghost use Rattle.std.specs.Prelude.{◌≡◌};
 ghost use Rattle.answer.specs.Answers.{answer};
-ghost use Rattle.path.specs.Records.{columns, lent};
+ghost use Rattle.path.specs.Records.{lent};
 ghost use Rattle.path_posted.specs.Posted as spec;
 
 use answer::{Answer, Question, Refusal};
@@ -11,12 +11,29 @@ use path::questions::path_answer;
 use si::{Length, Velocity};
 use speed::speed_point::SpeedPoints;
 
-// An answer, and the speed that goes with it.
+// An answer with a speed; 0 for a refusal.
 #[repr(C)]
 #[derive(Clone, Copy)]
 pub struct PostedAnswer {
     pub answer: Answer,
     pub speed: Velocity,
+}
+
+impl From<Result<Velocity, Refusal>> for PostedAnswer {
+    ghost from_gives = { λ posted r. r ≡ spec.posted_told posted };
+
+    fn from(posted: Result<Velocity, Refusal>) -> PostedAnswer {
+        match posted {
+            Ok(speed) => PostedAnswer {
+                answer: Answer::from(Ok(())),
+                speed,
+            },
+            Err(e) => PostedAnswer {
+                answer: Answer::from(e),
+                speed: Velocity(0.0),
+            },
+        }
+    }
 }
 
 // Questions 1, 2 and 10.
@@ -28,36 +45,10 @@ fn posted_answer(p: PathTpc, x: Length, cols: &PathColumns) -> Result<(), Refusa
     Question::InRange.ask(column::get(cols.offsets, 0) <= x.0)
 }
 
-// The speed posted at x; +0 where the call is refused.
-pub fn posted_speed(
-    p: PathTpc,
-    x: Length,
-    offsets: &[f64],
-    numbers: &[u32],
-    grades: &[f64],
-    curves: &[f64],
-    speeds: &[f64],
-    powers: &[f64],
-    districts: &[u32],
-) -> PostedAnswer
-    ensures { result ≡ spec.posted_of x.0 p (columns offsets.now numbers.now grades.now curves.now speeds.now powers.now districts.now) }
+// The speed posted at x.
+pub fn posted_speed(p: PathTpc, x: Length, cols: &PathColumns) -> Result<Velocity, Refusal>
+    ensures { spec.posted_told result ≡ spec.posted_of x.0 p (lent cols.now) }
 {
-    let cols = PathColumns {
-        offsets,
-        numbers,
-        grades,
-        curves,
-        speeds,
-        powers,
-        districts,
-    };
-    let answer = Answer::from(posted_answer(p, x, &cols));
-    if answer.number != 0 {
-        return PostedAnswer {
-            answer,
-            speed: Velocity(0.0),
-        };
-    }
-    let speed = SpeedPoints::new(speeds, p.speed_count).posted_at(x);
-    PostedAnswer { answer, speed }
+    posted_answer(p, x, cols)?;
+    Ok(SpeedPoints::new(cols.speeds, p.speed_count).posted_at(x))
 }
