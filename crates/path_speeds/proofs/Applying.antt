@@ -1,22 +1,18 @@
 -- The set that applies, and what a link's limits are by it.
 use Rattle.std.specs.Prelude.{Option, Some, None}
-use Prim.Native.Nat.{ℕ, suc, ◌≤◌, ◌<◌, ◌^◌}
-use native.Mathlib.Omega.{arith}
+use Prim.Native.Nat.{ℕ, ◌≤◌}
 use mathlib.Core.Path.{◌≡◌, refl, sym, ap, ◌∙◌}
-use mathlib.Core.Bool.{Bool, true, false, cond}
+use mathlib.Core.Bool.{Bool, true, cond}
 use mathlib.Core.List.{List, []}
-use lib.ListN.{length, get_or}
+use lib.ListN.{length}
 use lib.Ieee.{Float}
 use borrow.Author.Tests.{leb-true}
-use mir.Syntax.{w32}
-use mir.Val.{Fits}
 use Rattle.link.specs.declared.train_params.TrainParams.{TrainParams}
 use Rattle.link.specs.declared.speed_set.SpeedSet.{SpeedSet}
-use Rattle.link.specs.Train.{top_speed, type_number}
+use Rattle.link.specs.Train.{top_speed}
 use Rattle.link.specs.Condition.{applies}
-use Rattle.link.specs.Table.{is_present, set_at, set_for, conditions_of}
+use Rattle.link.specs.Table.{set_at, set_for, conditions_of}
 use Rattle.path_speeds.specs.Limits.{if_applies, applying_set, few_conditions, laying, entering, lowering, count_laid, limits_finite, SpeedSets, few_at, set_of, laying_at, count_at, finite_at}
-use Rattle.path_speeds.proofs.Lowered.{count_most}
 
 -- ---- the set of link n
 module _ (train : TrainParams) (sets codes : List ℕ) (values : List Float) (n : ℕ) where
@@ -63,30 +59,3 @@ count_none top limits = refl
 pub finite-none : (top base length : Float) (limits : List Float) → limits_finite top base length limits None ≡ true
 unfolding limits_finite
 finite-none top base length limits = refl
-
--- ---- how many limits a set has is an entry of a column of u32
-abbrev limits_in : Option SpeedSet → ℕ
-limits_in None = 0
-limits_in (Some s) = s.limits_count
-
-either : (bound : ℕ) (b : Bool) (f g : Option SpeedSet) → limits_in f < bound → limits_in g < bound → limits_in (cond b f g) < bound
-either bound true f g h k = h
-either bound false f g h k = k
-
-if-small : (train : TrainParams) (codes : List ℕ) (values : List Float) (bound : ℕ) (f : Option SpeedSet) → 0 < bound → limits_in f < bound → limits_in (if_applies train codes values f) < bound
-unfolding if_applies
-if-small train codes values bound None z h = z
-if-small train codes values bound (Some s) z h = either bound (applies train (conditions_of codes values s)) (Some s) None h z
-
-laid-most : (top : Float) (limits : List Float) (f : Option SpeedSet) → count_laid top limits f ≤ limits_in f
-laid-most top limits None = omega (arith, count_none top limits)
-laid-most top limits (Some s) = count_most top limits s
-
-pub count_small : (train : TrainParams) (q : SpeedSets) (n : ℕ) → ((k : ℕ) → Fits w32 (get_or q.places k 0)) → count_at train q n < 2 ^ 32
-unfolding applying_set set_for set_at
-count_small train q n known =
-    let set = set_at q.places n in
-    let typed = suc (type_number train.train_type) in
-    let f = set_of train q n in
-    let small = if-small train q.codes q.values (2 ^ 32) (set_for set train.train_type) (omega arith) (either (2 ^ 32) (is_present (set 0)) (Some (set 0)) (cond (is_present (set typed)) (Some (set typed)) None) (known _).fits (either (2 ^ 32) (is_present (set typed)) (Some (set typed)) None (known _).fits (omega arith))) in
-    omega (arith, count_by train q n f refl, laid-most (top_speed train) q.limits f, small)

@@ -1,14 +1,12 @@
 -- `recalc_speeds`: its questions, refused, and done.
 use Rattle.std.specs.Prelude.{None}
-use Prim.Native.Nat.{ℕ, ◌+◌, ◌-◌, ◌*◌, ◌/◌, ◌≤◌, ◌<◌, ◌^◌}
+use Prim.Native.Nat.{ℕ, ◌+◌, ◌-◌, ◌*◌, ◌/◌, ◌≤◌, ◌<◌}
 use native.Mathlib.Omega.{arith}
 use mathlib.Core.Path.{◌≡◌, refl, sym, ap, ap₂, ◌∙◌}
 use mathlib.Core.Bool.{Bool, true}
 use mathlib.Core.List.{List, [], ◌∷◌, map}
-use lib.ListN.{length, get_or}
+use lib.ListN.{length}
 use lib.Ieee.{Float}
-use mir.Syntax.{w32}
-use mir.Val.{Fits}
 use Rattle.ieee.specs.Number.{+0}
 use Rattle.column.specs.Entries.{filled}
 use Rattle.column.specs.Records.{flat}
@@ -21,23 +19,19 @@ use Rattle.link.specs.Lists.{every, up_from, first_no}
 use Rattle.link.specs.Train.{length_of}
 use Rattle.link.specs.Table.{LinkTable}
 use Rattle.link.specs.Questions.{numbers}
-use Rattle.link.proofs.Loops.{length-range}
 use Rattle.path.specs.declared.path_tpc.PathTpc.{PathTpc}
 use Rattle.answer.specs.declared.Answer.{Answer}
-use Rattle.path.specs.declared.path_tpc.PathAnswer.{PathAnswer}
 use Rattle.path.specs.declared.link_point.LinkPoint.{LinkPoint}
 use Rattle.path.specs.Records.{Columns, columns, Path, is_within_all, number_of, point_at, link_point_at, beginnings, path_of, columns_of, record_of}
 use Rattle.answer.specs.Answers.{done}
 use Rattle.path.specs.Answers.{ask, ask_each, in_turn, links_answer, left}
 use Rattle.path.specs.Sound.{sound, one_of_each, within_bounds, path_answer, train_finite, total}
 use Rattle.path.proofs.ReadBack.{counted, read_again}
-use Rattle.path.proofs.InTurn.{turn-no, turn-yes, turn-done, turn-none, first_done, last_one, links-done, judged-done, outcome-refused, outcome-done, turn_last}
+use Rattle.path.proofs.InTurn.{turn-no, turn-yes, turn-done, turn-none, first_done, last_one, links-done, judged-done, outcome-done, turn_last}
 use Rattle.path.proofs.Clauses.{within_all, times, sound-within, some-link, bounds, room}
 use Rattle.path_speeds.specs.Limits.{SpeedSets, sets_of, point_finite, point_count, point_few}
 use Rattle.path_speeds.specs.Recalc.{laid_anew, recalced_speeds, recalced_path, limits_answer, recalc_answer, recalc_of}
-use Rattle.path_speeds.proofs.Applying.{count_small}
 use Rattle.path_speeds.proofs.Few.{points-few}
-use Rattle.path.proofs.Counts.{total-bound}
 use Rattle.path.proofs.Numbers.{present-range, present-numbers, first-point}
 
 -- ---- questions 8 and 9
@@ -45,10 +39,6 @@ use Rattle.path.proofs.Numbers.{present-range, present-numbers, first-point}
 -- the first point and two for each limit
 abbrev pub points_laid : TrainParams → SpeedSets → List LinkPoint → ℕ
 points_laid train q present = 1 + 2 * total (point_count train q) present
-
--- each link lays as many limits as a u32 tells
-pub few-laid : (train : TrainParams) (q : SpeedSets) (at : ℕ → LinkPoint) (count : ℕ) → ((k : ℕ) → Fits w32 (get_or q.places k 0)) → total (point_count train q) (up_from at 0 count) ≤ count * 2 ^ 32
-few-laid train q at count known = omega (arith, total-bound (point_count train q) (up_from at 0 count) (λ l. count_small train q (number_of l) known), length-range at 0 count)
 
 module _ (train : TrainParams) (long : Float) (q : SpeedSets) (present : List LinkPoint) (n : ℕ) where
   abbrev eighth : Answer
@@ -159,64 +149,57 @@ module _ (train : TrainParams) (t : LinkTable) (p : PathTpc) (c : Columns) where
 
   -- ---- what is left
 
-  -- r is the code's answer to all the questions
-  module _ {r : Answer} (e : r ≡ recalc_answer train t p c) where
-    pub refused : (r.number ≡ 0 → ⊥) → left (record { answer = r; path = p }) c ≡ recalc_of train t p c
-    unfolding recalc_of
-    refused h =
-        ap (λ (a : Answer). left (record { answer = a; path = p }) c) e
-        ∙ sym (outcome-refused (recalc_answer train t p c) p c (recalced_path train t (path_of p c)) (λ k. h (ap (λ (a : Answer). a.number) e ∙ k)))
+  -- no question refuses
+  module _ (e : done ≡ recalc_answer train t p c) where
+    done-number : (recalc_answer train t p c).number ≡ 0
+    done-number = ap (λ (a : Answer). a.number) (sym e)
 
-    module _ (h : r.number ≡ 0) where
-      done-number : (recalc_answer train t p c).number ≡ 0
-      done-number = ap (λ (a : Answer). a.number) (sym e) ∙ h
+    sizes : (one_of_each p ≡ true) × (within_bounds p c ≡ true)
+    sizes = sound-within p c (recalc-done done-number).0
 
-      sizes : (one_of_each p ≡ true) × (within_bounds p c ≡ true)
-      sizes = sound-within p c (recalc-done done-number).0
+    pub within : within_bounds p c ≡ true
+    within = sizes.1
 
-      pub within : within_bounds p c ≡ true
-      within = sizes.1
+    pub some-points : 0 < p.link_count
+    some-points = some-link p c sizes.0
 
-      pub some-points : 0 < p.link_count
-      some-points = some-link p c sizes.0
+    -- the columns after `zero_rest`
+    module _ {os gs ks ss ws : List Float} {ns ds : List ℕ} (zeroed : columns os ns gs ks ss ws ds ≡ columns_of c (path_of p c)) where
+      same-links : (path_of p (columns os ns gs ks ss ws ds)).links ≡ (path_of p c).links
+      same-links = ap (λ (path : Path). path.links) (read_again p c zeroed)
 
-      -- the columns after `zero_rest`
-      module _ {os gs ks ss ws : List Float} {ns ds : List ℕ} (zeroed : columns os ns gs ks ss ws ds ≡ columns_of c (path_of p c)) where
-        same-links : (path_of p (columns os ns gs ks ss ws ds)).links ≡ (path_of p c).links
-        same-links = ap (λ (path : Path). path.links) (read_again p c zeroed)
+      same-range : up_from (point_at os ns) 0 (p.link_count - 1) ≡ present
+      same-range = sym (present-range p (columns os ns gs ks ss ws ds)) ∙ ap beginnings same-links
 
-        same-range : up_from (point_at os ns) 0 (p.link_count - 1) ≡ present
-        same-range = sym (present-range p (columns os ns gs ks ss ws ds)) ∙ ap beginnings same-links
+      same_first : point_at os ns 0 ≡ link_point_at (path_of p c).links 0
+      same_first = sym (first-point p (columns os ns gs ks ss ws ds) some-points) ∙ ap (λ (ps : List LinkPoint). link_point_at ps 0) same-links
 
-        same_first : point_at os ns 0 ≡ link_point_at (path_of p c).links 0
-        same_first = sym (first-point p (columns os ns gs ks ss ws ds) some-points) ∙ ap (λ (ps : List LinkPoint). link_point_at ps 0) same-links
+      same_length : length ss ≡ length c.speeds
+      unfolding columns_of path_of
+      same_length =
+          let ps = points p.speed_count c.speeds in
+          ap (λ (l : Columns). length l.speeds) zeroed
+          ∙ length-filled +0 (length c.speeds) (flat pair ps) (omega (arith, length-flat pair pair-lawful ps, length-points p.speed_count c.speeds, (room p c within).speeds))
 
-        same_length : length ss ≡ length c.speeds
-        unfolding columns_of path_of
-        same_length =
-            let ps = points p.speed_count c.speeds in
-            ap (λ (l : Columns). length l.speeds) zeroed
-            ∙ length-filled +0 (length c.speeds) (flat pair ps) (omega (arith, length-flat pair pair-lawful ps, length-points p.speed_count c.speeds, (room p c within).speeds))
+      pub ready :
+          (p.link_count - 1 ≤ 1025)
+          × ((every (point_few train (sets_of t)) (up_from (point_at os ns) 0 (p.link_count - 1)) ≡ true)
+          × (2 * points_laid train (sets_of t) (up_from (point_at os ns) 0 (p.link_count - 1)) ≤ length ss))
+      ready =
+          let known = recalc-done done-number in
+          let most = (bounds p c within).0 in
+          (omega arith, (ap (every (point_few train (sets_of t))) same-range ∙ known.1, omega (arith, known.2, ap (points_laid train (sets_of t)) same-range, same_length)))
 
-        pub ready :
-            (p.link_count - 1 ≤ 1025)
-            × ((every (point_few train (sets_of t)) (up_from (point_at os ns) 0 (p.link_count - 1)) ≡ true)
-            × (2 * points_laid train (sets_of t) (up_from (point_at os ns) 0 (p.link_count - 1)) ≤ length ss))
-        ready =
-            let known = recalc-done done-number in
-            let most = (bounds p c within).0 in
-            (omega arith, (ap (every (point_few train (sets_of t))) same-range ∙ known.1, omega (arith, known.2, ap (points_laid train (sets_of t)) same-range, same_length)))
-
-        pub recalced :
-            {ss' : List Float} {n : ℕ}
-            → length ss' ≡ length ss
-            → Leaves ss' n (laid_anew train (length_of train) (sets_of t) (up_from (point_at os ns) 0 (p.link_count - 1)) (point_at os ns 0))
-            → left (record { answer = r; path = with_count n p }) (columns os ns gs ks ss' ws ds) ≡ recalc_of train t p c
-        unfolding recalc_of columns_of recalced_path
-        recalced {ss' = ss'} {n = n} kept laid =
-            let anew = recalced_speeds train (length_of train) t (path_of p c).links in
-            let l = leaves_at ss' n _ anew laid (ap₂ (laid_anew train (length_of train) (sets_of t)) same-range same_first) in
-            let speeds = l.holds.is ∙ ap (λ (k : ℕ). filled +0 k (flat pair anew)) (kept ∙ same_length) in
-            let cols = ap (with_speeds ss') zeroed ∙ ap (λ (ss : List Float). with_speeds ss (columns_of c (path_of p c))) speeds in
-            let answer = ap₂ {C = PathAnswer} (λ (a : Answer) (q : PathTpc). record { answer = a; path = q }) (e ∙ (recalc-done done-number).3) (ap (λ (k : ℕ). with_count k p) l.count ∙ sym counts) in
-            ap₂ left answer cols ∙ sym (outcome-done (recalc_answer train t p c) p c (recalced_path train t (path_of p c)) done-number)
+      pub recalced :
+          {ss' : List Float} {n : ℕ}
+          → length ss' ≡ length ss
+          → Leaves ss' n (laid_anew train (length_of train) (sets_of t) (up_from (point_at os ns) 0 (p.link_count - 1)) (point_at os ns 0))
+          → left (record { answer = done; path = with_count n p }) (columns os ns gs ks ss' ws ds) ≡ recalc_of train t p c
+      unfolding recalc_of columns_of recalced_path
+      recalced {ss' = ss'} {n = n} kept laid =
+          let anew = recalced_speeds train (length_of train) t (path_of p c).links in
+          let l = leaves_at ss' n _ anew laid (ap₂ (laid_anew train (length_of train) (sets_of t)) same-range same_first) in
+          let speeds = l.holds.is ∙ ap (λ (k : ℕ). filled +0 k (flat pair anew)) (kept ∙ same_length) in
+          let cols = ap (with_speeds ss') zeroed ∙ ap (λ (ss : List Float). with_speeds ss (columns_of c (path_of p c))) speeds in
+          let answer = ap (λ (q : PathTpc). record { answer = done; path = q }) (ap (λ (k : ℕ). with_count k p) l.count ∙ sym counts) in
+          ap₂ left answer cols ∙ sym (outcome-done (recalc_answer train t p c) p c (recalced_path train t (path_of p c)) done-number)

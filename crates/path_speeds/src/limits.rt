@@ -1,7 +1,6 @@
 // The limits of a set: which apply, where they are laid, and whether the sums for that are finite.
-ghost use Rattle.std.specs.Prelude.{Some, ◌≡◌, true, ◌+◌, ◌*◌, ◌≤◌, ◌<◌, ◌^◌};
-ghost use Rattle.std.proofs.Math.ListN as list;
-ghost use Rattle.speed.specs.Column.{points, Holds, Leaves};
+ghost use Rattle.std.specs.Prelude.{Some, ◌≡◌, true, ◌*◌, ◌<◌, ◌^◌};
+ghost use Rattle.speed.specs.Becomes.{points_of, HasRoom, Becomes};
 ghost use Rattle.link.specs.Table.{limit_of, set_at, set_for};
 ghost use Rattle.path_speeds.specs.Limits as spec;
 
@@ -9,7 +8,7 @@ use link::cat_power::speed_limit_at;
 use link::speed_set::{SpeedSet, set_for};
 use link::train_params::{TrainParams, speed_set_applies};
 use si::{Length, Velocity};
-use speed::insert_speed::insert_speed;
+use speed::speed_column::SpeedColumn;
 use speed::speed_limit::SpeedLimit;
 
 // The set of link i for the train, if its conditions hold.
@@ -92,7 +91,8 @@ pub fn limits_finite(
 
 // How many limits of a set are below the top speed.
 pub fn limits_count(limits: &[f64], s: SpeedSet, top: Velocity) -> usize
-    ensures { result ≡ spec.count_laid top.0 limits.now (Some s) }
+    ensures count { result ≡ spec.count_laid top.0 limits.now (Some s) }
+    ensures upper_bound { result < 2 ^ 32 }
 {
     let first = s.limits_first as usize;
     let end = first + (s.limits_count as usize);
@@ -105,31 +105,27 @@ pub fn limits_count(limits: &[f64], s: SpeedSet, top: Velocity) -> usize
     n
 }
 
-// Lays the limits of a set that are below the top speed on the n points of a column.
+// Lays the limits of a set that are below the top speed.
 pub fn lay_limits(
-    col: &mut [f64],
-    n: usize,
+    speeds: &mut SpeedColumn,
     limits: &[f64],
     s: SpeedSet,
     base: Length,
     length: Length,
     top: Velocity,
-) -> usize
-    requires n_nonzero { 0 < n }
-    requires s_bound { 2 * (n + 2 * spec.count_laid top.0 limits.now (Some s)) ≤ list.length col.old }
-    requires holds { Holds col.old (points n col.old) }
-    ensures { Leaves col.new result
-        (spec.lay_all (points n col.old) (spec.laying top.0 base.0 length.0 limits.now (Some s))) }
+)
+    requires some { 0 < speeds.old.count }
+    requires room { HasRoom (2 * spec.count_laid top.0 limits.now (Some s)) speeds.old }
+    ensures { Becomes speeds.old speeds.new
+        (spec.lay_all (points_of speeds.old) (spec.laying top.0 base.0 length.0 limits.now (Some s))) }
 {
     let tail = tail_of(s, length);
     let first = s.limits_first as usize;
     let end = first + (s.limits_count as usize);
-    let mut m = n;
     for i in first..end {
         let l = speed_limit_at(limits, i);
         if l.speed.0 < top.0 {
-            m = insert_speed(&mut *col, m, placed(l, base, tail));
+            speeds.insert_speed(placed(l, base, tail));
         }
     }
-    m
 }

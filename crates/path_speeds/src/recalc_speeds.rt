@@ -3,53 +3,46 @@ ghost use Rattle.std.specs.Prelude.{◌≡◌, true, ◌+◌, ◌*◌, ◌≤◌
 ghost use Rattle.std.proofs.Math.ListN as list;
 ghost use Rattle.speed.specs.Column.{Leaves};
 ghost use Rattle.link.specs.Lists.{every, up_from};
-ghost use Rattle.link.specs.Table.{table_of};
-ghost use Rattle.path.specs.Records.{columns, point_at};
+ghost use Rattle.link.specs.Table.{table};
+ghost use Rattle.path.specs.Records.{lent, held, Same, point_at};
 ghost use Rattle.answer.specs.Answers.{answer};
-ghost use Rattle.path.specs.Answers.{Outcome, left};
+ghost use Rattle.path.specs.Answers.{left, told};
 ghost use Rattle.path.specs.Sound.{total};
-ghost use Rattle.path_speeds.specs.Limits.{speed_sets, point_few, point_count};
+ghost use Rattle.path_speeds.specs.Limits.{sets_of, point_few, point_count};
 ghost use Rattle.path_speeds.specs.Recalc as spec;
 
 use crate::add_speeds::{lay_links, points_count, points_finite};
-use answer::{Answer, Question, Refusal};
+use answer::{Question, Refusal};
 use column::{Two, put_record};
 use link::network::Network;
 use link::train_params::TrainParams;
-use path::columns::PathColumns;
+use path::columns::{PathColumns, PathColumnsMut};
 use path::finite::train_finite;
 use path::links::links_answer;
-use path::path_tpc::{PathAnswer, PathTpc};
+use path::path_tpc::PathTpc;
 use path::questions::path_answer;
-use path::rest::zero_rest;
 use path::sound::within;
 use si::Length;
+use speed::speed_column::SpeedColumn;
 
-// Questions 8 and 9, for a train of the length `own`.
+// Questions 8 and 9 of the first `count` link points, for a train of the length `own`.
 fn limits_answer(
-    offsets: &[f64],
-    numbers: &[u32],
-    speeds: &[f64],
+    cols: &PathColumns,
     count: usize,
-    sets: &[u32],
-    codes: &[u32],
-    values: &[f64],
-    limits: &[f64],
+    network: &Network,
     own: Length,
     train: TrainParams,
 ) -> Result<(), Refusal>
     requires count_bound { count ≤ 1025 }
-    requires count_value { every (point_few train (speed_sets sets.now codes.now values.now limits.now))
-        (up_from (point_at offsets.now numbers.now) 0 count) ≡ true }
-    ensures { answer result ≡ spec.limits_answer train own.0 (speed_sets sets.now codes.now values.now limits.now)
-        (up_from (point_at offsets.now numbers.now) 0 count) (list.length speeds.now) }
+    requires count_value { every (point_few train (sets_of (table network.now)))
+        (up_from (point_at cols.now.offsets.now cols.now.numbers.now) 0 count) ≡ true }
+    ensures { answer result ≡ spec.limits_answer train own.0 (sets_of (table network.now))
+        (up_from (point_at cols.now.offsets.now cols.now.numbers.now) 0 count) (list.length cols.now.speeds.now) }
 {
-    let sums = points_finite(
-        offsets, numbers, count, sets, codes, values, limits, own, train,
-    );
+    let sums = points_finite(cols.offsets, cols.numbers, count, network, own, train);
     Question::Results.ask_each(sums)?;
-    let laid = points_count(offsets, numbers, count, sets, codes, values, limits, train);
-    let half = speeds.len() / 2;
+    let laid = points_count(cols.offsets, cols.numbers, count, network, train);
+    let half = cols.speeds.len() / 2;
     Question::Room.ask(within(1 + 2 * laid, 4096, half, half))
 }
 
@@ -57,56 +50,15 @@ fn limits_answer(
 fn recalc_answer(
     p: PathTpc,
     train: TrainParams,
-    offsets: &[f64],
-    numbers: &[u32],
-    grades: &[f64],
-    curves: &[f64],
-    speeds: &[f64],
-    powers: &[f64],
-    districts: &[u32],
-    links: &[u32],
-    lengths: &[f64],
-    sets: &[u32],
-    elevs: &[f64],
-    headings: &[f64],
-    limits: &[f64],
-    codes: &[u32],
-    values: &[f64],
-    link_powers: &[f64],
-    link_districts: &[u32],
+    cols: &PathColumns,
+    network: &Network,
 ) -> Result<(), Refusal>
-    ensures { answer result ≡ spec.recalc_answer train
-        (table_of links.now lengths.now sets.now elevs.now headings.now limits.now codes.now values.now link_powers.now link_districts.now) p
-        (columns offsets.now numbers.now grades.now curves.now speeds.now powers.now districts.now) }
+    ensures { answer result ≡ spec.recalc_answer train (table network.now) p (lent cols.now) }
 {
-    let cols = PathColumns {
-        offsets,
-        numbers,
-        grades,
-        curves,
-        speeds,
-        powers,
-        districts,
-    };
-    path_answer(p, train_finite(train), &cols)?;
+    path_answer(p, train_finite(train), cols)?;
     let count = p.link_count - 1;
-    let network = Network {
-        links,
-        lengths,
-        sets,
-        elevs,
-        headings,
-        limits,
-        codes,
-        values,
-        powers: link_powers,
-        districts: link_districts,
-    };
-    links_answer(numbers, true, count, None, &network, train.train_type)?;
-    let own = train.length;
-    limits_answer(
-        offsets, numbers, speeds, count, sets, codes, values, limits, own, train,
-    )
+    links_answer(cols.numbers, true, count, None, network, train.train_type)?;
+    limits_answer(cols, count, network, train.length, train)
 }
 
 // One speed point, at the path's beginning, and then the limits of the first `count` link points, for a train of the length `own`.
@@ -115,123 +67,54 @@ fn lay_anew(
     offsets: &[f64],
     numbers: &[u32],
     count: usize,
-    sets: &[u32],
-    codes: &[u32],
-    values: &[f64],
-    limits: &[f64],
+    network: &Network,
     own: Length,
     train: TrainParams,
 ) -> usize
     requires count_bound { count ≤ 1025 }
-    requires count_value { every (point_few train (speed_sets sets.now codes.now values.now limits.now))
+    requires count_value { every (point_few train (sets_of (table network.now)))
         (up_from (point_at offsets.now numbers.now) 0 count) ≡ true }
-    requires count_bound_2 { 2 *
-        (1 + 2 * total (point_count train (speed_sets sets.now codes.now values.now limits.now)) (up_from (point_at offsets.now numbers.now) 0 count)) ≤
+    requires room { 2 *
+        (1 + 2 * total (point_count train (sets_of (table network.now))) (up_from (point_at offsets.now numbers.now) 0 count)) ≤
         list.length speeds.old }
     ensures { Leaves speeds.new result
-        (spec.laid_anew train own.0 (speed_sets sets.now codes.now values.now limits.now)
+        (spec.laid_anew train own.0 (sets_of (table network.now))
         (up_from (point_at offsets.now numbers.now) 0 count) (point_at offsets.now numbers.now 0)) }
 {
     let begin = column::get(offsets, 0);
     column::zero_from(&mut *speeds, 0);
     put_record(&mut *speeds, 0, Two(begin, train.speed_max.0));
-    lay_links(
-        &mut *speeds,
-        1,
-        offsets,
-        numbers,
-        0,
-        count,
-        sets,
-        codes,
-        values,
-        limits,
-        own,
-        train,
-    )
+    let mut points = SpeedColumn {
+        col: &mut *speeds,
+        count: 1,
+    };
+    lay_links(&mut points, offsets, numbers, 0, count, network, own, train);
+    points.count
 }
 
 // The speed points anew: from the path's beginning at the top speed, and then the limits of its links.
 pub fn recalc_speeds(
     p: PathTpc,
     train: TrainParams,
-    offsets: &mut [f64],
-    numbers: &mut [u32],
-    grades: &mut [f64],
-    curves: &mut [f64],
-    speeds: &mut [f64],
-    powers: &mut [f64],
-    districts: &mut [u32],
-    links: &[u32],
-    lengths: &[f64],
-    sets: &[u32],
-    elevs: &[f64],
-    headings: &[f64],
-    limits: &[f64],
-    codes: &[u32],
-    values: &[f64],
-    link_powers: &[f64],
-    link_districts: &[u32],
-) -> PathAnswer
-    ensures { ◌≡◌ {A = Outcome}
-        (left result (columns offsets.new numbers.new grades.new curves.new speeds.new powers.new districts.new))
-        (spec.recalc_of train
-        (table_of links.now lengths.now sets.now elevs.now headings.now limits.now codes.now values.now link_powers.now link_districts.now) p
-        (columns offsets.old numbers.old grades.old curves.old speeds.old powers.old districts.old)) }
+    cols: &mut PathColumnsMut,
+    network: &Network,
+) -> Result<PathTpc, Refusal>
+    ensures same { Same cols.old cols.new }
+    ensures outcome { left (told p result) (held cols.new) ≡ spec.recalc_of train (table network.now) p (held cols.old) }
 {
-    let answer = Answer::from(recalc_answer(
-        p,
-        train,
-        &*offsets,
-        &*numbers,
-        &*grades,
-        &*curves,
-        &*speeds,
-        &*powers,
-        &*districts,
-        links,
-        lengths,
-        sets,
-        elevs,
-        headings,
-        limits,
-        codes,
-        values,
-        link_powers,
-        link_districts,
-    ));
-    if answer.number != 0 {
-        return PathAnswer { answer, path: p };
-    }
-    zero_rest(
-        p,
-        &mut *offsets,
-        &mut *numbers,
-        &mut *grades,
-        &mut *curves,
-        &mut *speeds,
-        &mut *powers,
-        &mut *districts,
-    );
+    recalc_answer(p, train, &cols.reading(), network)?;
+    cols.zero_rest(p);
     let count = p.link_count - 1;
     let own = train.length;
-    let n = lay_anew(
-        &mut *speeds,
-        &*offsets,
-        &*numbers,
+    // The link points are only read: a `&` is not covered yet beside the `&mut` of another field.
+    let speed_count = lay_anew(
+        &mut *cols.speeds,
+        &mut *cols.offsets,
+        &mut *cols.numbers,
         count,
-        sets,
-        codes,
-        values,
-        limits,
+        network,
         own,
         train,
     );
-    PathAnswer {
-        answer,
-        path: PathTpc {
-            speed_count: n,
-            ..p
-        },
-    }
+    Ok(PathTpc { speed_count, ..p })
 }

@@ -3,11 +3,12 @@ use Prim.Native.Nat.{◌+◌, ◌-◌}
 use native.Mathlib.Omega.{arith}
 use mathlib.Core.Path.{ap, ◌∙◌}
 use Rattle.link.specs.Lists.{every, up_from}
+use Rattle.link.specs.Table.{table}
 use Rattle.path.specs.Records.{point_at}
-use Rattle.speed.specs.Column.{points}
+use Rattle.speed.specs.Becomes.{points_of}
 use Rattle.link.proofs.Loops.{whole-range, range_none, range-next}
 use Rattle.path.specs.Sound.{total}
-use Rattle.path_speeds.specs.Limits.{speed_sets, point_few, point_count, lay_links}
+use Rattle.path_speeds.specs.Limits.{sets_of, point_few, point_count, lay_links}
 use Rattle.path_speeds.proofs.LayingLoop.{going-first}
 use Rattle.path_speeds.proofs.LinkLimits.{links-room, links-next, links-done}
 use Rattle.link.proofs.Known.{every-next}
@@ -16,43 +17,40 @@ use Rattle.path_speeds.proofs.add_speeds.lay_links.Goals as goal
 pub loop-k-init : goal.loop-k-init
 loop-k-init c =
     let a = c.args in
-    let q = speed_sets a.sets.now a.codes.now a.values.now a.limits.now in
+    let q = sets_of (table a.network.now) in
     let at = point_at a.offsets.now a.numbers.now in
     let all = whole-range at a.first a.count in
-    let ls = up_from at a.first (a.first + a.count - a.first) in (
+    let ls = up_from at a.first a.count in (
       ap (every (point_few a.train q)) all ∙ c.requires.count_value,
-      going-first a.col.now (lay_links a.train a.length.0 q (points a.n a.col.now) (up_from at a.first a.count)) (total (point_count a.train q) ls) (λ ps. lay_links a.train a.length.0 q ps ls) a.n c.requires.n_nonzero (omega (arith, c.requires.count_bound_2, ap (total (point_count a.train q)) all)) c.requires.holds (ap (lay_links a.train a.length.0 q (points a.n a.col.now)) all),
+      rw (all) (going-first a.speeds.now (total (point_count a.train q) ls) (λ ps. lay_links a.train a.length.0 q ps ls) c.requires.some c.requires.room),
     )
 
-pub add_speeds-m-requires : goal.add_speeds-m-requires
-add_speeds-m-requires c =
+pub add_speeds-requires : goal.add_speeds-requires
+add_speeds-requires c =
     let a = c.args in
-    let q = speed_sets a.sets.now a.codes.now a.values.now a.limits.now in
+    let q = sets_of (table a.network.now) in
     let at = point_at a.offsets.now a.numbers.now in
     let end = a.first + a.count in
     let o = c.loop-k in
-    let g = o.invariant.1 in record { n_nonzero = g.some; i_bound = omega arith; i_value = ap (point_few a.train q) c.link_point_at-p.ensures ∙ (every-next at (point_few a.train q) o.k end c.loop-k-test.true o.invariant.0).0; i_bound_2 = links-room a.train a.length.0 q a.col.now (lay_links a.train a.length.0 q (points a.n a.col.now) (up_from at a.first a.count)) (up_from at o.k (end - o.k)) o.col o.m g c.link_point_at-p.result (up_from at (o.k + 1) (end - (o.k + 1))) (range-next at o.k end c.loop-k-test.true c.link_point_at-p.result c.link_point_at-p.ensures); holds = g.held }
+    let g = o.invariant.1 in record { some = g.some; i_bound = omega arith; i_value = ap (point_few a.train q) c.link_point_at-p.ensures ∙ (every-next at (point_few a.train q) o.k end c.loop-k-test.true o.invariant.0).0; room = links-room a.train a.length.0 q a.speeds.now (lay_links a.train a.length.0 q (points_of a.speeds.now) (up_from at a.first a.count)) (up_from at o.k (end - o.k)) o.speeds g c.link_point_at-p.result (up_from at (o.k + 1) (end - (o.k + 1))) (range-next at o.k end c.loop-k-test.true c.link_point_at-p.result c.link_point_at-p.ensures) }
 
 pub loop-k-preserved : goal.loop-k-preserved
 loop-k-preserved c =
     let a = c.args in
-    let q = speed_sets a.sets.now a.codes.now a.values.now a.limits.now in
+    let q = sets_of (table a.network.now) in
     let at = point_at a.offsets.now a.numbers.now in
     let end = a.first + a.count in
     let o = c.loop-k in
-    let r = c.add_speeds-m in (
+    let r = c.add_speeds in (
       (every-next at (point_few a.train q) o.k end c.loop-k-test.true o.invariant.0).1,
-      links-next a.train a.length.0 q a.col.now (lay_links a.train a.length.0 q (points a.n a.col.now) (up_from at a.first a.count)) (up_from at o.k (end - o.k)) o.col o.m o.invariant.1 c.link_point_at-p.result (up_from at (o.k + 1) (end - (o.k + 1))) (range-next at o.k end c.loop-k-test.true c.link_point_at-p.result c.link_point_at-p.ensures) r.new.col r.result r.ensures r.auto.col,
+      links-next a.train a.length.0 q a.speeds.now (lay_links a.train a.length.0 q (points_of a.speeds.now) (up_from at a.first a.count)) (up_from at o.k (end - o.k)) o.speeds o.invariant.1 c.link_point_at-p.result (up_from at (o.k + 1) (end - (o.k + 1))) (range-next at o.k end c.loop-k-test.true c.link_point_at-p.result c.link_point_at-p.ensures) r.new.speeds r.ensures,
     )
-
-pub shape_of-col : goal.shape_of-col
-shape_of-col c = c.loop-k.invariant.1.same
 
 pub returns : goal.returns
 returns c =
     let a = c.args in
-    let q = speed_sets a.sets.now a.codes.now a.values.now a.limits.now in
+    let q = sets_of (table a.network.now) in
     let at = point_at a.offsets.now a.numbers.now in
     let end = a.first + a.count in
     let o = c.loop-k in
-    links-done a.train a.length.0 q a.col.now (lay_links a.train a.length.0 q (points a.n a.col.now) (up_from at a.first a.count)) (up_from at o.k (end - o.k)) o.col o.m o.invariant.1 (range_none at o.k end c.loop-k-test.false)
+    links-done a.train a.length.0 q a.speeds.now (lay_links a.train a.length.0 q (points_of a.speeds.now) (up_from at a.first a.count)) (up_from at o.k (end - o.k)) o.speeds o.invariant.1 (range_none at o.k end c.loop-k-test.false)

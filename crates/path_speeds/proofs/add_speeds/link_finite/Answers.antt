@@ -2,23 +2,24 @@
 use Rattle.std.specs.Prelude.{Some, None}
 use mathlib.Core.Path.{sym, ◌∙◌}
 use Rattle.link.specs.Train.{top_speed}
-use Rattle.path_speeds.specs.Limits.{speed_sets}
+use Rattle.link.specs.Table.{table}
+use Rattle.path_speeds.specs.Limits.{sets_of}
 use Rattle.path_speeds.proofs.Applying.{few-at, finite-by, finite-none}
 use Rattle.path_speeds.proofs.add_speeds.link_finite.Goals as goal
 
 pub applying_set-requires : goal.applying_set-requires
 applying_set-requires c =
     let a = c.args in
-    let q = speed_sets a.sets.now a.codes.now a.values.now a.limits.now in record { i_bound = c.requires.i_bound; train_type_value = few-at a.train q a.i c.requires.i_value }
+    let q = sets_of (table a.network.now) in record { i_bound = c.requires.i_bound; train_type_value = few-at a.train q a.i c.requires.i_value }
 
 pub returns-in_default : goal.returns-in_default
 returns-in_default c =
     let a = c.args in
-    let q = speed_sets a.sets.now a.codes.now a.values.now a.limits.now in
+    let q = sets_of (table a.network.now) in
     sym (finite-by a.train q a.i None (sym c.in_default.is ∙ c.applying_set.ensures) a.base.0 a.length.0 ∙ finite-none (top_speed a.train) a.base.0 a.length.0 q.limits)
 
 pub returns : goal.returns
 returns c =
     let a = c.args in
-    let q = speed_sets a.sets.now a.codes.now a.values.now a.limits.now in
+    let q = sets_of (table a.network.now) in
     c.limits_finite.ensures ∙ sym (finite-by a.train q a.i (Some c.in-Some.s) (sym c.in-Some.is ∙ c.applying_set.ensures) a.base.0 a.length.0)

@@ -8,7 +8,8 @@ use Rattle.path.specs.declared.link_point.LinkPoint.{LinkPoint}
 use Rattle.path.specs.Records.{point_at}
 use Rattle.link.proofs.Judging.{said-no-of, said-yes-of}
 use Rattle.link.proofs.Loops.{first-pass, first-fail, first-end}
-use Rattle.path_speeds.specs.Limits.{speed_sets, point_few, point_finite}
+use Rattle.link.specs.Table.{table}
+use Rattle.path_speeds.specs.Limits.{sets_of, point_few, point_finite}
 use Rattle.link.proofs.Known.{every-next}
 use mathlib.Core.Path.{ap}
 use mathlib.Core.Bool.{not}
@@ -17,7 +18,7 @@ use Rattle.path_speeds.proofs.add_speeds.points_finite.Goals as goal
 pub loop-k-init : goal.loop-k-init
 loop-k-init c =
     let a = c.args in
-    let q = speed_sets a.sets.now a.codes.now a.values.now a.limits.now in
+    let q = sets_of (table a.network.now) in
     let at = point_at a.offsets.now a.numbers.now in
     let all = ap (up_from at 0) (sub-zero a.count) in
     (ap (every (point_few a.train q)) all ∙ c.requires, ap (λ (ps : List LinkPoint). first_no (map (point_finite a.train a.length.0 q) ps)) all)
@@ -25,13 +26,13 @@ loop-k-init c =
 pub link_finite-requires : goal.link_finite-requires
 link_finite-requires c =
     let a = c.args in
-    let q = speed_sets a.sets.now a.codes.now a.values.now a.limits.now in
+    let q = sets_of (table a.network.now) in
     let at = point_at a.offsets.now a.numbers.now in record { i_bound = omega arith; i_value = ap (point_few a.train q) c.link_point_at-p.ensures ∙ (every-next at (point_few a.train q) c.loop-k.k a.count c.loop-k-test.true c.loop-k.invariant.0).0 }
 
 pub returns-then-not-link_finite : goal.returns-then-not-link_finite
 returns-then-not-link_finite c =
     let a = c.args in
-    let q = speed_sets a.sets.now a.codes.now a.values.now a.limits.now in
+    let q = sets_of (table a.network.now) in
     let at = point_at a.offsets.now a.numbers.now in
     let k = c.loop-k.k in
     let ok = point_finite a.train a.length.0 q in
@@ -40,7 +41,7 @@ returns-then-not-link_finite c =
 pub loop-k-preserved : goal.loop-k-preserved
 loop-k-preserved c =
     let a = c.args in
-    let q = speed_sets a.sets.now a.codes.now a.values.now a.limits.now in
+    let q = sets_of (table a.network.now) in
     let at = point_at a.offsets.now a.numbers.now in
     let k = c.loop-k.k in
     let ok = point_finite a.train a.length.0 q in (
@@ -51,6 +52,6 @@ loop-k-preserved c =
 pub returns : goal.returns
 returns c =
     let a = c.args in
-    let q = speed_sets a.sets.now a.codes.now a.values.now a.limits.now in
+    let q = sets_of (table a.network.now) in
     let at = point_at a.offsets.now a.numbers.now in
     sym (first-end at (point_finite a.train a.length.0 q) c.loop-k.k a.count c.loop-k-test.false) ∙ c.loop-k.invariant.1

@@ -5,8 +5,9 @@ use mathlib.Core.Bool.{true}
 use mathlib.Core.List.{map}
 use Rattle.link.specs.Lists.{every, up_from, first_no, first_no_from}
 use Rattle.path.specs.Records.{point_at}
-use Rattle.path_speeds.specs.Limits.{speed_sets, point_few, point_finite}
+use Rattle.link.specs.Table.{table}
+use Rattle.path_speeds.specs.Limits.{sets_of, point_few, point_finite}
 use Rattle.path_speeds.proofs.add_speeds.points_finite.Given as goal
 
 abbrev pub invariant-loop-k : goal.invariant-loop-k
-invariant-loop-k l = (every (point_few l.train (speed_sets l.sets l.codes l.values l.limits)) (up_from (point_at l.offsets l.numbers) l.k (l.count - l.k)) ≡ true) × (first_no_from l.k (map (point_finite l.train l.length.0 (speed_sets l.sets l.codes l.values l.limits)) (up_from (point_at l.offsets l.numbers) l.k (l.count - l.k))) ≡ first_no (map (point_finite l.train l.length.0 (speed_sets l.sets l.codes l.values l.limits)) (up_from (point_at l.offsets l.numbers) 0 l.count)))
+invariant-loop-k l = (every (point_few l.train (sets_of (table l.network))) (up_from (point_at l.offsets l.numbers) l.k (l.count - l.k)) ≡ true) × (first_no_from l.k (map (point_finite l.train l.length.0 (sets_of (table l.network))) (up_from (point_at l.offsets l.numbers) l.k (l.count - l.k))) ≡ first_no (map (point_finite l.train l.length.0 (sets_of (table l.network))) (up_from (point_at l.offsets l.numbers) 0 l.count)))

@@ -2,10 +2,10 @@
 use Rattle.std.specs.Prelude.{Some}
 use Prim.Native.Nat.{◌+◌}
 use native.Mathlib.Omega.{arith}
-use mathlib.Core.Path.{refl, ap}
+use mathlib.Core.Path.{ap}
 use lib.ListN.{length}
-use Rattle.speed.specs.Column.{points}
-use Rattle.speed.proofs.PointColumn.{leaves_at}
+use Rattle.speed.specs.Becomes.{points_of}
+use Rattle.speed.proofs.PointColumn.{becomes-as}
 use Rattle.link.specs.Table.{limit_of}
 use Rattle.path_speeds.specs.Limits.{lay_all, laying}
 use Rattle.path_speeds.proofs.Lowered.{limits_end, to_lay, lay-next, lay-skip, lay-end, lay-whole, length_whole}
@@ -21,17 +21,18 @@ loop-i-init c =
     let base = a.base.0 in
     let tail = c.tail_of-tail.result.0 in
     let ls = to_lay top base tail limits (limits_end a.s) a.s.limits_first in
-    going-first a.col.now (lay_all (points a.n a.col.now) ls) (length ls) (λ ps. lay_all ps ls) a.n c.requires.n_nonzero (omega (arith, c.requires.s_bound, length_whole top base tail a.length.0 limits a.s c.tail_of-tail.ensures)) c.requires.holds refl
+    going-first a.speeds.now (length ls) (λ ps. lay_all ps ls) c.requires.some (omega (arith, c.requires.room, length_whole top base tail a.length.0 limits a.s c.tail_of-tail.ensures))
 
-pub insert_speed-m-requires : goal.insert_speed-m-requires
-insert_speed-m-requires c =
+pub insert_speed-requires : goal.insert_speed-requires
+insert_speed-requires c =
     let a = c.args in
     let limits = a.limits.now in
     let top = a.top.0 in
     let base = a.base.0 in
     let tail = c.tail_of-tail.result.0 in
     let i = c.loop-i.i in
-    let g = c.loop-i.invariant in record { n_nonzero = g.some; n_in_bounds = omega (arith, g.room, ap length (lay-next top base tail limits (limits_end a.s) i c.loop-i-test.true (limit_of c.speed_limit_at-l.result) c.speed_limit_at-l.ensures (limit_of c.placed.result) c.placed.ensures c.if-l-top.true)); holds = g.held }
+    let g = c.loop-i.invariant in
+    record { some = g.some; room = omega (arith, g.room, ap length (lay-next top base tail limits (limits_end a.s) i c.loop-i-test.true (limit_of c.speed_limit_at-l.result) c.speed_limit_at-l.ensures (limit_of c.placed.result) c.placed.ensures c.if-l-top.true)) }
 
 pub loop-i-preserved : goal.loop-i-preserved
 loop-i-preserved c =
@@ -42,18 +43,14 @@ loop-i-preserved c =
     let tail = c.tail_of-tail.result.0 in
     let end = limits_end a.s in
     let o = c.loop-i in
-    let goal = lay_all (points a.n a.col.now) (to_lay top base tail limits end a.s.limits_first) in
+    let goal = lay_all (points_of a.speeds.now) (to_lay top base tail limits end a.s.limits_first) in
     let left = to_lay top base tail limits end in
     let l = limit_of c.speed_limit_at-l.result in
     elim c.if-l-top.branch [
       | then-l-top w ↦
-          let r = w.insert_speed-m in
-          rw (w.col-is, w.m-is) (limits-next a.col.now goal (left o.i) o.col o.m o.invariant (limit_of w.placed.result) (left (o.i + 1)) r.new.col r.result (lay-next top base tail limits end o.i c.loop-i-test.true l c.speed_limit_at-l.ensures (limit_of w.placed.result) w.placed.ensures w.if-l-top.true) r.ensures r.auto.col)
-      | else-l-top w ↦ rw (w.col-is, w.m-is) (limits-skip a.col.now goal (left o.i) o.col o.m o.invariant (left (o.i + 1)) (lay-skip top base tail limits end o.i c.loop-i-test.true l c.speed_limit_at-l.ensures w.if-l-top.false))
+          rw w.speeds-is (limits-next a.speeds.now goal (left o.i) o.speeds o.invariant (limit_of w.placed.result) (left (o.i + 1)) w.insert_speed.new.self (lay-next top base tail limits end o.i c.loop-i-test.true l c.speed_limit_at-l.ensures (limit_of w.placed.result) w.placed.ensures w.if-l-top.true) w.insert_speed.ensures)
+      | else-l-top w ↦ rw w.speeds-is (limits-skip a.speeds.now goal (left o.i) o.speeds o.invariant (left (o.i + 1)) (lay-skip top base tail limits end o.i c.loop-i-test.true l c.speed_limit_at-l.ensures w.if-l-top.false))
     ]
-
-pub shape_of-col : goal.shape_of-col
-shape_of-col c = c.loop-i.invariant.same
 
 pub returns : goal.returns
 returns c =
@@ -64,9 +61,9 @@ returns c =
     let tail = c.tail_of-tail.result.0 in
     let end = limits_end a.s in
     let o = c.loop-i in
-    let ps = points a.n a.col.now in
+    let ps = points_of a.speeds.now in
     let left = to_lay top base tail limits end in
     let all = left a.s.limits_first in
-    leaves_at o.col o.m (lay_all ps all) (lay_all ps (laying top base a.length.0 limits (Some a.s)))
-    (limits-done a.col.now (lay_all ps all) (left o.i) o.col o.m o.invariant (lay-end top base tail limits end o.i c.loop-i-test.false))
+    becomes-as (lay_all ps (laying top base a.length.0 limits (Some a.s)))
+    (limits-done a.speeds.now (lay_all ps all) (left o.i) o.speeds o.invariant (lay-end top base tail limits end o.i c.loop-i-test.false))
     (ap (lay_all ps) (lay-whole top base tail a.length.0 limits a.s c.tail_of-tail.ensures))

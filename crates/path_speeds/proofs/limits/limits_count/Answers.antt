@@ -4,7 +4,7 @@ use mathlib.Core.Path.{sym, ap, ◌∙◌}
 use lib.ListN.{length}
 use Rattle.link.specs.Table.{limit_at}
 use Rattle.path_speeds.specs.Limits.{lowers}
-use Rattle.path_speeds.proofs.Lowered.{limits_end, lower-next, lower_skip, lower-end, count-whole}
+use Rattle.path_speeds.proofs.Lowered.{limits_end, lower-next, lower_skip, lower-end, count-whole, count_most}
 use Rattle.path_speeds.proofs.limits.limits_count.Goals as goal
 use Rattle.path_speeds.proofs.limits.limits_count.Goals.{then-speed_limit_at-top, else-speed_limit_at-top}
 
@@ -24,8 +24,14 @@ loop-i-preserved c =
       | else-speed_limit_at-top w ↦ (omega arith, omega (arith, c.loop-i.invariant.1, ap length (lower_skip top (limit_at limits) i end c.loop-i-test.true (own ∙ w.if-speed_limit_at-top.false))))
     ]
 
-pub returns : goal.returns
-returns c =
+pub returns-clause-count : goal.returns-clause-count
+returns-clause-count c =
     let a = c.args in
     let limits = a.limits.now in
     omega (arith, c.loop-i.invariant.1, ap length (lower-end a.top.0 (limit_at limits) c.loop-i.i (limits_end a.s) c.loop-i-test.false), count-whole a.top.0 limits a.s)
+
+pub returns-clause-upper_bound : goal.returns-clause-upper_bound
+returns-clause-upper_bound c =
+    let a = c.args in
+    let limits = a.limits.now in
+    omega (arith, c.loop-i.invariant.1, ap length (lower-end a.top.0 (limit_at limits) c.loop-i.i (limits_end a.s) c.loop-i-test.false), count-whole a.top.0 limits a.s, count_most a.top.0 limits a.s)
