@@ -17,14 +17,13 @@ use Rattle.lookup.proofs.Coeffs.{triple-lawful}
 use Rattle.path.specs.declared.path_tpc.PathTpc.{PathTpc}
 use Rattle.path.specs.declared.link_point.LinkPoint.{LinkPoint}
 use Rattle.path.specs.Records.{Columns, columns, offset_of, four_of, grade_count_of, curve_count_of, power_count_of, link_points, no_link_point, three_of, power_limits, Path, path_of, columns_of, record_of}
-use Rattle.answer.specs.Answers.{done}
-use Rattle.path.specs.Answers.{left, changed}
+use Rattle.path.specs.Answers.{changed}
 use Rattle.path.specs.Sound.{totals, sound}
 use Rattle.path.proofs.LinkPoints.{length-links, link_at}
 use Rattle.path.proofs.Counts.{total-fewer}
 use Rattle.path.proofs.ReadBack.{Within, length-powers, link-offsets, link-fours, power-threes, power-districts}
 use Rattle.path.proofs.Clauses.{Fewer, sound-fewer, sound-within, room}
-use Rattle.path_clear.specs.Clear.{without_links}
+use Rattle.path_clear.specs.Clear.{without_links, done_left}
 
 -- ---- the counts of the links that go
 -- q is these counts
@@ -32,9 +31,9 @@ pub few-go :
     (p : PathTpc) (c : Columns)
     → sound p c ≡ true
     → (d : ℕ) {q : LinkPoint}
-    → q ≡ totals (take d (link_points p.link_count c.offsets c.numbers))
+    → q ≡ totals (take d (path_of p c).links)
     → Fewer p q
-unfolding totals
+unfolding totals path_of
 few-go p c known d e =
     let ps = link_points p.link_count c.offsets c.numbers in
     let all = sound-fewer p c known in (
@@ -121,7 +120,7 @@ module _ (p : PathTpc) (c : Columns) (d : ℕ) where
       {q : LinkPoint} {o : Float} {n : ℕ} {os gs ks ss ws : List Float} {ns ds : List ℕ}
       → sound p c ≡ true
       → d < p.link_count
-      → q ≡ totals (take d (link_points p.link_count c.offsets c.numbers))
+      → q ≡ totals (take d (path_of p c).links)
       → o ≡ get_or c.offsets d +0
       → os ≡ move_front +0 d p.link_count c.offsets
       → ns ≡ move_front 0 (4 * d) (4 * p.link_count) c.numbers
@@ -131,11 +130,11 @@ module _ (p : PathTpc) (c : Columns) (d : ℕ) where
       → length ss ≡ length c.speeds
       → ws ≡ move_front +0 (3 * power_count_of q) (3 * p.power_count) c.powers
       → ds ≡ move_front 0 (power_count_of q) p.power_count c.districts
-      → left (record { answer = done; path = kept_record q n }) (columns os ns gs ks ss ws ds) ≡ changed c (without_links d (path_of p c))
-  unfolding changed
+      → done_left (kept_record q n) (columns os ns gs ks ss ws ds) ≡ changed c (without_links d (path_of p c))
+  unfolding changed path_of
   cut_left {q} {o} {n} known h e f e₁ e₂ e₃ e₄ leaves same e₆ e₇ =
       let held : _ ≡ filled +0 (length c.speeds) (flat pair (clear_points (points p.speed_count c.speeds) o)) =
       leaves.holds.is ∙ ap (λ (k : ℕ). filled +0 k (flat pair (clear_points (points p.speed_count c.speeds) o))) same in
-      ap₂ (λ (r : PathTpc) (l : Columns). left (record { answer = done; path = r }) l) (kept-counts q o leaves.count)
+      ap₂ done_left (kept-counts q o leaves.count)
       (kept-columns q o (room p c (sound-within p c known).1) (omega arith) (few-go p c known d e) e₁ e₂ e₃ e₄ held e₆ e₇)
       ∙ ap (changed c) (kept-is q o h e f)

@@ -12,7 +12,7 @@ use borrow.Author.Tests.{eq-eqb, eqb-true, eqb-false}
 use Rattle.path.specs.declared.path_tpc.PathTpc.{PathTpc}
 use Rattle.answer.specs.declared.Answer.{Answer}
 use Rattle.path.specs.declared.link_point.LinkPoint.{LinkPoint}
-use Rattle.path.specs.Records.{Columns, link_points, no_link_point, Path, path_of, record_of, columns_of}
+use Rattle.path.specs.Records.{Columns, no_link_point, Path, path_of, record_of, columns_of}
 use Rattle.answer.specs.Answers.{done}
 use Rattle.path.specs.Answers.{is_done, ask, in_turn, Outcome, left, changed}
 use Rattle.path.specs.Sound.{one_of_each, path_finite, sound_path, sound, path_answer, totals}
@@ -22,8 +22,7 @@ use Rattle.path.proofs.WrittenSound.{before}
 use Rattle.path.proofs.Tidied.{Long, changed-long, written-long}
 use Rattle.path_clear.specs.Clear.{drop_count, without_links, cleared_path, in_range, clear_answer, Cleared, clear_of}
 use Rattle.path_clear.proofs.Trimmed.{refused}
-use Rattle.path_clear.specs.declared.clear_each.Progress.{Progress}
-use Rattle.path_clear.specs.TrimsByPoints.{trim_answer, going_of}
+use Rattle.path_clear.specs.TrimsByPoints.{Progress, trim_answer, going_of}
 use Rattle.path_clear.specs.Trims.{trims_answer, both, trims_leave}
 use Rattle.path_clear.proofs.WithoutLinks.{own-clear}
 use Rattle.path_clear.proofs.StillSound.{lists-one, lists-sound, stays-trimmed}
@@ -79,10 +78,9 @@ module _ (path : Path) (one : one_of_each (record_of path) ≡ true) (known : so
   answer-is = clear-asks x q l at.numbers at.known ∙ ap (trim_answer x) rest-is
 
   trim-refused : is_done (trim_answer x rest) ≡ false → clear_of x q l ≡ record { outcome = left (record { answer = trim_answer x rest; path = q }) l; dropped = no_link_point }
-  unfolding totals link_points
   trim-refused e =
       let n : (trim_answer x rest).number ≡ 0 → ⊥ = eqb-false (trim_answer x rest).number 0 e in
-      sym (refused x q l (sym answer-is) n refl)
+      sym (refused x q l (sym answer-is) n)
 
   trim-done : is_done (trim_answer x rest) ≡ true → clear_of x q l ≡ record { outcome = changed c (cleared_path (d + drop_count x rest) path); dropped = totals (take (drop_count x rest) rest) }
   unfolding clear_of

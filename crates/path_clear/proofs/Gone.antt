@@ -15,17 +15,19 @@ use borrow.Author.Tests.{eq-eqb, ne_eqb, eqb-true, eqb-false, leb-true}
 use Rattle.ieee.specs.Number.{+0}
 use Rattle.ieee.proofs.Order.{of-true}
 use Rattle.link.proofs.Known.{and_both}
+use Rattle.std.specs.Prelude.{Result}
+use Rattle.answer.specs.declared.Question.{Question}
+use Rattle.answer.specs.declared.Refusal.{Refusal}
 use Rattle.answer.specs.declared.Answer.{Answer}
 use Rattle.path.specs.declared.link_point.LinkPoint.{LinkPoint}
 use Rattle.path.specs.Records.{offset_of, link_points, link_point_at, end_point}
-use Rattle.answer.specs.Answers.{done}
+use Rattle.answer.specs.Answers.{number, done, refused_at}
 use Rattle.path.specs.Answers.{is_done, ask}
 use Rattle.path.proofs.LinkPoints.{length-links, links_from, links-drop}
 use Rattle.path.proofs.InTurn.{first-no, first-yes, first_done, last_one}
 use Rattle.path_clear.specs.Clear.{drop_count, in_range}
 use Rattle.path_clear.proofs.Dropping.{Passed, passed_first, passed-more, passed-stop, passed-all, range_at}
-use Rattle.path_clear.specs.declared.clear_each.Progress.{Progress}
-use Rattle.path_clear.specs.TrimsByPoints.{trim_answer, going_of}
+use Rattle.path_clear.specs.TrimsByPoints.{Progress, got, trim_answer, going_of}
 use Rattle.path_clear.proofs.WithoutLinks.{two-left}
 
 -- ---- one trim
@@ -92,20 +94,19 @@ module _ (ps : List LinkPoint) where
 
   -- ---- the code's loop: those that are left, from link point d on, give the answer of the whole list
   module _ (xs : List Float) (d k : ℕ) (inv : going_of d k (drop k xs) ps ≡ going_of 0 0 xs ps) where
-    pub going-all : {a : Answer} → length xs ≤ k → a ≡ done → record { gone = d; answer = a } ≡ going_of 0 0 xs ps
+    pub going-all : length xs ≤ k → going_of 0 0 xs ps ≡ record { gone = d; answer = done }
     unfolding going_of
-    going-all h e = ap (λ (a : Answer). record { gone = d; answer = a }) e ∙ ap (λ (l : List Float). going_of d k l ps) (sym (drop_of_length-le xs h)) ∙ inv
+    going-all h = sym inv ∙ ap (λ (l : List Float). going_of d k l ps) (drop_of_length-le xs h)
 
     -- the next one is at x, and a is its answer
     module _ {x : Float} {a : Answer} (h : k < length xs) (e : x ≡ get_or xs k nan) (asked : a ≡ trim_answer x (drop d ps)) where
       next-is : going_of d k (x ∷ drop (k + 1) xs) ps ≡ going_of 0 0 xs ps
       next-is = ap (λ (l : List Float). going_of d k l ps) (ap₂ ◌∷◌ e (ap (λ (j : ℕ). drop j xs) (add-one k)) ∙ sym (drop-cons xs k nan h)) ∙ inv
 
-      pub going-refused : (a.number ≡ 0 → ⊥) → record { gone = d; answer = record { number = a.number; place = k } } ≡ going_of 0 0 xs ps
+      pub going-refused : (a.number ≡ 0 → ⊥) → (going_of 0 0 xs ps).answer ≡ record { number = a.number; place = k }
       going-refused n =
-          ap (λ (b : Answer). record { gone = d; answer = record { number = b.number; place = k } }) asked
-          ∙ sym (going-ends d k x (drop (k + 1) xs) (ne_eqb (trim_answer x (drop d ps)).number 0 (λ z. n (ap (λ (b : Answer). b.number) asked ∙ z))))
-          ∙ next-is
+          ap (λ (g : Progress). g.answer) (sym next-is ∙ going-ends d k x (drop (k + 1) xs) (ne_eqb (trim_answer x (drop d ps)).number 0 (λ z. n (ap (λ (b : Answer). b.number) asked ∙ z))))
+          ∙ ap (λ (b : Answer). record { number = b.number; place = k }) (sym asked)
 
       module _ (t : a.number ≡ 0) {m : ℕ} (g : m ≡ d + drop_count x (drop d ps)) where
         trim-passed : (trim_answer x (drop d ps)).number ≡ 0
@@ -119,6 +120,10 @@ module _ (ps : List LinkPoint) where
 
         pub next-below : m < length ps
         next-below = omega (arith, trim-left x d ps trim-passed)
+
+-- the code's refusal of the trim at place k
+pub got-refused : (q : Question) (k : ℕ) (g : Progress) {r : Result ℕ Refusal} → r ≡ refused_at q k → g.answer ≡ record { number = number q; place = k } → got r g
+got-refused q k g e h = subst (λ (s : Result ℕ Refusal). got s g) (sym e) h
 
 -- ---- in the columns: the link points from d on
 module _ (x : Float) (os : List Float) (ns : List ℕ) (n d : ℕ) (h : d < n) where

@@ -1,14 +1,18 @@
 -- `clear`, R50 to R53: path_tpc.rs. Definitions only.
-use Rattle.std.specs.Prelude.{ℕ, zero, suc, Bool, ◌&&◌, cond, List, [], ◌∷◌, leb, take, drop, Float}
+use Rattle.std.specs.Prelude.{ℕ, zero, suc, Bool, ◌&&◌, cond, List, [], ◌∷◌, leb, take, drop, Float, Result, Ok, Err}
 use Rattle.std.specs.Float.Ieee as Ieee
 use Rattle.std.specs.Float.Ieee.Scale.{finite}
 use Rattle.speed.specs.Clear.{clear_points}
 use Rattle.path.specs.declared.path_tpc.PathTpc.{PathTpc}
 use Rattle.answer.specs.declared.Answer.{Answer}
+use Rattle.answer.specs.declared.Refusal.{Refusal}
+use Rattle.answer.specs.Answers.{done}
 use Rattle.path.specs.declared.link_point.LinkPoint.{LinkPoint}
 use Rattle.path.specs.Records.{Columns, Path, offset_of, grade_count_of, curve_count_of, power_count_of, no_link_point, link_point_at, end_point, path_of}
-use Rattle.path.specs.Answers.{is_done, ask, in_turn, Outcome, outcome}
+use Rattle.path.specs.Answers.{is_done, ask, in_turn, Outcome, left, told, outcome}
 use Rattle.path.specs.Sound.{path_answer, totals}
+use Rattle.path_clear.specs.declared.clear.Trimmed.{Trimmed}
+use Rattle.path_clear.specs.declared.clear.ClearAnswer.{ClearAnswer}
 
 -- how many of these link points lie before x, up to the first that does not
 unfoldable pub count_before : Float → List LinkPoint → ℕ
@@ -55,6 +59,19 @@ clear_answer x p c =
 pub record Cleared : Type 0 where
   pub outcome : Outcome
   pub dropped : LinkPoint
+
+-- what a change that is done leaves
+abbrev pub done_left : PathTpc → Columns → Outcome
+done_left p c = left (record { answer = done; path = p }) c
+
+-- what C is told of a drop on the path p: a refused one has p as it came, and no counts
+abbrev pub trimmed_told : PathTpc → Result Trimmed Refusal → ClearAnswer
+trimmed_told p (Ok t) = record { outcome = told p (Ok t.path); dropped = t.dropped }
+trimmed_told p (Err e) = record { outcome = told p (Err e); dropped = no_link_point }
+
+-- .. and the columns with it
+abbrev pub trimmed_left : ClearAnswer → Columns → Cleared
+trimmed_left a c = record { outcome = left a.outcome c; dropped = a.dropped }
 
 unfoldable pub clear_of : Float → PathTpc → Columns → Cleared
 unfolding clear_answer cleared_path count_before

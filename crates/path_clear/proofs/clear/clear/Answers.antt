@@ -1,37 +1,34 @@
--- `clear`: refused, and then how many links go, their counts, and the path without them.
-use native.Mathlib.Omega.{arith}
-use native.Mathlib.Nat.{zero-add}
-use mathlib.Core.Path.{◌∙◌}
-use Rattle.path.specs.Records.{columns}
-use Rattle.path_clear.proofs.Dropping.{clear-done}
-use Rattle.path_clear.proofs.Trimmed.{refused, links-known, links-bound, fewer, counts-gone, trimmed}
+-- `clear`: refused, and then how many links go, and the path without them.
+use mathlib.Core.Path.{refl, ap, ◌∙◌}
+use Rattle.path.specs.Records.{held}
+use Rattle.path.proofs.Told.{told-err, told-ok, numbered}
+use Rattle.path_clear.specs.Clear.{clear_answer}
+use Rattle.path_clear.proofs.Trimmed.{handed-trimmed, refused, links-known, known, fewer, trimmed}
 use Rattle.path_clear.proofs.clear.clear.Goals as goal
 
-pub returns-then-answer-ne0 : goal.returns-then-answer-ne0
-returns-then-answer-ne0 c =
+pub returns-in_err-clear_answer-clause-outcome : goal.returns-in_err-clear_answer-clause-outcome
+returns-in_err-clear_answer-clause-outcome c =
     let a = c.args in
-    let l = columns a.offsets.now a.numbers.now a.grades.now a.curves.now a.speeds.now a.powers.now a.districts.now in
-    refused a.x.0 a.p l (c.from-answer.ensures ∙ c.clear_answer.ensures) c.if-answer-ne0.true c.add_counts.ensures
+    let l = held a.cols.now in
+    handed-trimmed a.p l _ _ c.from_residual.ensures.1
+    ∙ refused a.x.0 a.p l (told-err c.clear_answer.ensures c.in_err-clear_answer.was ∙ ap (clear_answer a.x.0 a.p) c.reading.ensures) (numbered _)
 
 pub drop_from-d-requires : goal.drop_from-d-requires
 drop_from-d-requires c =
     let a = c.args in
-    let l = columns a.offsets.now a.numbers.now a.grades.now a.curves.now a.speeds.now a.powers.now a.districts.now in
-    links-known a.x.0 a.p l (c.from-answer.ensures ∙ c.clear_answer.ensures) c.if-answer-ne0.false
+    links-known a.x.0 a.p (held a.cols.now) (told-ok c.clear_answer.ensures c.in_ok-clear_answer.was ∙ ap (clear_answer a.x.0 a.p) c.reading.ensures) refl
 
-pub add_counts-dropped-requires : goal.add_counts-dropped-requires
-add_counts-dropped-requires c =
+pub cleared-requires-clause-known : goal.cleared-requires-clause-known
+cleared-requires-clause-known c =
     let a = c.args in
-    let l = columns a.offsets.now a.numbers.now a.grades.now a.curves.now a.speeds.now a.powers.now a.districts.now in
-    omega (arith, links-bound a.x.0 a.p l (c.from-answer.ensures ∙ c.clear_answer.ensures) c.if-answer-ne0.false, fewer a.x.0 a.p l (c.from-answer.ensures ∙ c.clear_answer.ensures) c.if-answer-ne0.false (c.drop_from-d.ensures ∙ zero-add _))
+    known a.x.0 a.p (held a.cols.now) (told-ok c.clear_answer.ensures c.in_ok-clear_answer.was ∙ ap (clear_answer a.x.0 a.p) c.reading.ensures) refl
 
-pub cleared-outcome-requires : goal.cleared-outcome-requires
-cleared-outcome-requires c =
+pub cleared-requires-clause-d_bound : goal.cleared-requires-clause-d_bound
+cleared-requires-clause-d_bound c =
     let a = c.args in
-    let l = columns a.offsets.now a.numbers.now a.grades.now a.curves.now a.speeds.now a.powers.now a.districts.now in record { districts_value = clear-done a.x.0 a.p l (c.from-answer.ensures ∙ c.clear_answer.ensures) c.if-answer-ne0.false; d_bound = fewer a.x.0 a.p l (c.from-answer.ensures ∙ c.clear_answer.ensures) c.if-answer-ne0.false (c.drop_from-d.ensures ∙ zero-add _); dropped_value = counts-gone a.x.0 a.p l (c.from-answer.ensures ∙ c.clear_answer.ensures) c.if-answer-ne0.false (c.drop_from-d.ensures ∙ zero-add _) c.add_counts-dropped.ensures }
+    fewer a.x.0 a.p (held a.cols.now) (told-ok c.clear_answer.ensures c.in_ok-clear_answer.was ∙ ap (clear_answer a.x.0 a.p) c.reading.ensures) refl c.reading-2.ensures c.drop_from-d.ensures
 
-pub returns : goal.returns
-returns c =
+pub returns-clause-outcome : goal.returns-clause-outcome
+returns-clause-outcome c =
     let a = c.args in
-    let l = columns a.offsets.now a.numbers.now a.grades.now a.curves.now a.speeds.now a.powers.now a.districts.now in
-    trimmed a.x.0 a.p l (c.from-answer.ensures ∙ c.clear_answer.ensures) c.if-answer-ne0.false (c.drop_from-d.ensures ∙ zero-add _) c.add_counts-dropped.ensures c.cleared-outcome.ensures
+    trimmed a.x.0 a.p (held a.cols.now) (told-ok c.clear_answer.ensures c.in_ok-clear_answer.was ∙ ap (clear_answer a.x.0 a.p) c.reading.ensures) refl c.reading-2.ensures c.drop_from-d.ensures c.cleared.ensures.outcome c.cleared.ensures.counts

@@ -5,4 +5,4 @@ use Rattle.path_clear.proofs.clear.in_range.Goals as goal
 pub returns : goal.returns
 returns c =
     let a = c.args in
-    range_at a.x.0 a.offsets.now a.numbers.now a.n c.requires c.get-first.ensures c.get-last.ensures
+    range_at a.x.0 a.cols.now.offsets.now a.cols.now.numbers.now a.n c.requires c.get-first.ensures c.get-last.ensures

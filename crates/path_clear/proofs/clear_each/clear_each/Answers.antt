@@ -1,29 +1,24 @@
 -- `clear_each`: a trim refused, and the path cut where the trims end.
-use Rattle.path.specs.Records.{columns}
-use Rattle.path_clear.proofs.Called.{known, gone-below, gone-bound, gone-counts, called-refused, called-done}
+use Rattle.path.specs.Records.{held}
+use Rattle.path_clear.proofs.Called.{known, gone-below, called-refused, called-done}
 use Rattle.path_clear.proofs.clear_each.clear_each.Goals as goal
 
-pub returns-then-answer-ne0 : goal.returns-then-answer-ne0
-returns-then-answer-ne0 c =
+pub returns-in_err-gone-clause-outcome : goal.returns-in_err-gone-clause-outcome
+returns-in_err-gone-clause-outcome c =
     let a = c.args in
-    let l = columns a.offsets.now a.numbers.now a.grades.now a.curves.now a.speeds.now a.powers.now a.districts.now in
-    called-refused a.xs.now a.p l c.judge_trims-g.ensures c.if-answer-ne0.true c.add_counts.ensures
+    called-refused a.xs.now a.p (held a.cols.now) _ _ c.reading.ensures c.in_err-gone.ensures c.from_residual.ensures.1
 
-pub add_counts-dropped-requires : goal.add_counts-dropped-requires
-add_counts-dropped-requires c =
+pub cleared-requires-clause-known : goal.cleared-requires-clause-known
+cleared-requires-clause-known c =
     let a = c.args in
-    let l = columns a.offsets.now a.numbers.now a.grades.now a.curves.now a.speeds.now a.powers.now a.districts.now in
-    gone-bound a.xs.now a.p l c.judge_trims-g.ensures c.if-answer-ne0.false
+    known a.xs.now a.p (held a.cols.now) c.reading.ensures c.in_ok-gone.ensures
 
-pub cleared-outcome-requires : goal.cleared-outcome-requires
-cleared-outcome-requires c =
+pub cleared-requires-clause-d_bound : goal.cleared-requires-clause-d_bound
+cleared-requires-clause-d_bound c =
     let a = c.args in
-    let l = columns a.offsets.now a.numbers.now a.grades.now a.curves.now a.speeds.now a.powers.now a.districts.now in
-    let judged = c.judge_trims-g.ensures in
-    let t = c.if-answer-ne0.false in record { districts_value = known a.xs.now a.p l judged t; d_bound = gone-below a.xs.now a.p l judged t; dropped_value = gone-counts a.xs.now a.p l judged t c.add_counts-dropped.ensures }
+    gone-below a.xs.now a.p (held a.cols.now) c.reading.ensures c.in_ok-gone.ensures
 
-pub returns : goal.returns
-returns c =
+pub returns-clause-outcome : goal.returns-clause-outcome
+returns-clause-outcome c =
     let a = c.args in
-    let l = columns a.offsets.now a.numbers.now a.grades.now a.curves.now a.speeds.now a.powers.now a.districts.now in
-    called-done a.xs.now a.p l c.judge_trims-g.ensures c.if-answer-ne0.false c.cleared-outcome.ensures c.add_counts-dropped.ensures
+    called-done a.xs.now a.p (held a.cols.now) c.reading.ensures c.in_ok-gone.ensures c.cleared.ensures.outcome c.cleared.ensures.counts

@@ -8,4 +8,4 @@ use Rattle.path_clear.proofs.clear_each.going.Given as goal
 
 abbrev pub invariant-loop-k : goal.invariant-loop-k
 invariant-loop-k l =
-    (l.k ≤ length l.xs) × (l.gone < l.n) × (going_of l.gone l.k (drop l.k l.xs) (link_points l.n l.offsets l.numbers) ≡ going_of 0 0 l.xs (link_points l.n l.offsets l.numbers))
+    (l.k ≤ length l.xs) × (l.gone < l.n) × (going_of l.gone l.k (drop l.k l.xs) (link_points l.n l.cols.offsets.now l.cols.numbers.now) ≡ going_of 0 0 l.xs (link_points l.n l.cols.offsets.now l.cols.numbers.now))

@@ -1,23 +1,21 @@
 -- `judge_trims`: questions 1 and 2 of the path, and then the trims in turn.
-use mathlib.Core.Path.{◌∙◌}
+use mathlib.Core.Path.{refl}
 use Rattle.path.specs.Records.{lent}
-use Rattle.path_clear.proofs.Called.{progress-refused, progress-goes, some-links}
+use Rattle.path.proofs.Told.{told-err, told-ok}
+use Rattle.path_clear.proofs.Called.{got-first, got-going, some-links}
 use Rattle.path_clear.proofs.clear_each.judge_trims.Goals as goal
 
-pub returns-then-first-ne0 : goal.returns-then-first-ne0
-returns-then-first-ne0 c =
+pub returns-in_err-path_answer : goal.returns-in_err-path_answer
+returns-in_err-path_answer c =
     let a = c.args in
-    let l = lent a.cols.now in
-    progress-refused a.xs.now a.p l c.first_finite.ensures (c.from-first.ensures ∙ c.path_answer.ensures) c.if-first-ne0.true
+    got-first a.xs.now a.p (lent a.cols.now) c.first_finite.ensures _ (told-err c.path_answer.ensures c.in_err-path_answer.was) _ c.from_residual.ensures.1
 
 pub going-requires : goal.going-requires
 going-requires c =
     let a = c.args in
-    let l = lent a.cols.now in
-    some-links a.xs.now a.p l c.first_finite.ensures (c.from-first.ensures ∙ c.path_answer.ensures) c.if-first-ne0.false
+    some-links a.xs.now a.p (lent a.cols.now) c.first_finite.ensures (told-ok c.path_answer.ensures c.in_ok-path_answer.was) refl
 
 pub returns : goal.returns
 returns c =
     let a = c.args in
-    let l = lent a.cols.now in
-    progress-goes a.xs.now a.p l c.first_finite.ensures (c.from-first.ensures ∙ c.path_answer.ensures) c.if-first-ne0.false c.going.ensures
+    got-going a.xs.now a.p (lent a.cols.now) c.first_finite.ensures (told-ok c.path_answer.ensures c.in_ok-path_answer.was) refl _ c.going.ensures
