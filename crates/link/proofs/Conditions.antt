@@ -3,14 +3,13 @@ use Rattle.std.proofs.Common.{◌≡◌, ℕ, zero, suc, ◌+◌, ◌-◌, ◌*�
 use lib.Ieee as Ieee
 use lib.Ieee.{Float, nan, inf, fin, up, down}
 use lib.Ieee.Fits.{down_pos}
-use lib.Ieee.Scale.{finite}
 use borrow.Author.Tests.{lt-leb}
 use Rattle.ieee.proofs.Order.{le→cross, cross→le, le-real-r, lt-le-trans, lt_trans, not-le, bool-ext, of-true, of-false}
 use Rattle.link.specs.declared.train_params.TrainParams.{TrainParams}
 use Rattle.link.specs.declared.speed_param.SpeedParam.{SpeedParam}
 use Rattle.link.specs.declared.speed_param.SpeedParam.TheVariants.{MassTotal, MassPerBrake, AxleCount}
 use Rattle.link.specs.Lists.{every, up_from}
-use Rattle.link.specs.Condition.{Condition, holds, applies, axle_limit, param_of, ParamTold, param_told, condition_formed}
+use Rattle.link.specs.Condition.{Condition, holds, applies, axle_limit, param_of, ParamTold, param_told}
 
 -- ---- the axle limit
 -- a whole number
@@ -75,25 +74,6 @@ told-again None = refl
 
 pub same-param : (a b : Option SpeedParam) → param_told a ≡ param_told b → a ≡ b
 same-param a b e = sym (told-again a) ∙ ap (λ (t : ParamTold). param_of t.kind t.value) e ∙ told-again b
-
--- ---- question 6 of a condition
-module _ (x : Condition) where
-  pub kind-unknown : param_told (param_of x.kind x.value) ≡ param_told None → false ≡ condition_formed x
-  unfolding condition_formed
-  kind-unknown e = rw e
-
-  module _ (p : SpeedParam) (e : param_told (param_of x.kind x.value) ≡ param_told (Some p)) where
-    pub code-low : x.comparison < 1 → false ≡ condition_formed x
-    unfolding condition_formed
-    code-low h = rw (e, lt-leb 1 x.comparison h)
-
-    pub code-high : 5 < x.comparison → false ≡ condition_formed x
-    unfolding condition_formed
-    code-high h = rw (e, le-leb 1 x.comparison (omega arith), lt-leb x.comparison 5 h)
-
-    pub codes-known : 1 ≤ x.comparison → x.comparison ≤ 5 → finite x.value ≡ condition_formed x
-    unfolding condition_formed
-    codes-known h k = rw (e, le-leb 1 x.comparison h, le-leb x.comparison 5 k)
 
 -- ---- a list of conditions: the first, and then the rest
 pub applies-next : (train : TrainParams) (at : ℕ → Condition) (first left : ℕ) → (left ≡ 0 → ⊥)

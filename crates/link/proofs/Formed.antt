@@ -1,7 +1,6 @@
 -- Question 6 of limits, samples and sets, test by test as the code asks it, how many train types there are, and question 7.
-use Rattle.std.proofs.Common.{◌≡◌, ℕ, suc, ◌+◌, ◌-◌, ◌*◌, ◌<◌, ◌≤◌, Bool, true, false, ◌&&◌, leb, List, length, get_or, sym, refl, ap, ◌∙◌, ap₂, add-one, arith, lit<, le-leb, Option, Some, None}
+use Rattle.std.proofs.Common.{◌≡◌, ℕ, suc, ◌+◌, ◌-◌, ◌*◌, ◌<◌, ◌≤◌, Bool, true, false, ◌&&◌, List, length, get_or, sym, refl, ap, ◌∙◌, ap₂, add-one, arith, lit<, Option, Some, None}
 use mathlib.Core.Bool.{and-false}
-use borrow.Author.Tests.{lt-leb}
 use lib.Ieee as Ieee
 use lib.Ieee.{Float}
 use lib.Ieee.Scale.{finite}
@@ -14,9 +13,8 @@ use Rattle.link.specs.declared.train_params.TrainType.TheVariants.{None as NoTyp
 use Rattle.link.specs.declared.speed_set.SpeedSet.{SpeedSet}
 use Rattle.link.specs.Lists.{every, up_from}
 use Rattle.link.specs.Train.{type_number}
-use Rattle.link.specs.Table.{Sample, Limit, limit_at, set_at, conditions_of, limits_of, set_for, SetTold, set_told}
-use Rattle.link.specs.Condition.{condition_formed}
-use Rattle.link.specs.Questions.{rise_to, spans, sample_finite, samples_formed, limit_formed, present_formed, set_formed, has_set}
+use Rattle.link.specs.Table.{Sample, Limit, limit_at, set_at, set_for, SetTold, set_told}
+use Rattle.link.specs.Questions.{rise_to, spans, sample_finite, samples_formed, limit_formed, has_set}
 use Rattle.link.proofs.Loops.{range-more, range_none}
 
 -- ---- records that lie in their columns, read entry by entry; d is what a read past the end would give
@@ -84,50 +82,6 @@ module _ (at : ℕ → Sample) (length : Float) (first count : ℕ) where
       ∙ in-turn true (finite o && finite (at first).value) _ (Ieee.eq o +0) _
       ∙ ap (λ (l : List Sample). (Ieee.eq o +0 && (finite o && finite (at first).value)) && (every sample_finite l && rise_to length o l)) (sym rest)
 
--- ---- a set that is present: the flag, the count of conditions, the three ranges, and then the conditions and the limits
--- one past the last condition, and one past the last limit
-abbrev params_end : SpeedSet → ℕ
-params_end s = s.params_first + s.params_count
-
-abbrev limits_end : SpeedSet → ℕ
-limits_end s = s.limits_first + s.limits_count
-
-abbrev each_formed : List ℕ → List Float → List Float → SpeedSet → Bool
-each_formed codes values limits s = every condition_formed (conditions_of codes values s) && every limit_formed (limits_of limits s)
-
-module _ (codes : List ℕ) (values limits : List Float) (s : SpeedSet) where
-  pub present-flag : 1 < s.is_head_end → present_formed codes values limits s ≡ false
-  unfolding present_formed
-  present-flag h = rw (lt-leb s.is_head_end 1 h)
-
-  module _ (a : s.is_head_end ≤ 1) where
-    pub present-many : 64 < s.params_count → present_formed codes values limits s ≡ false
-    unfolding present_formed
-    present-many h = rw (le-leb s.is_head_end 1 a, lt-leb s.params_count 64 h)
-
-    module _ (b : s.params_count ≤ 64) where
-      ranges : present_formed codes values limits s
-          ≡ (leb (2 * params_end s) (length codes) && (leb (1 * params_end s) (length values) && (leb (3 * limits_end s) (length limits) && each_formed codes values limits s)))
-      unfolding present_formed
-      ranges = rw (le-leb s.is_head_end 1 a, le-leb s.params_count 64 b)
-
-      pub present-codes : length codes < 2 * params_end s → present_formed codes values limits s ≡ false
-      present-codes h = rw (ranges, lt-leb (2 * params_end s) (length codes) h)
-
-      module _ (k : 2 * params_end s ≤ length codes) where
-        pub present-values : length values < params_end s → present_formed codes values limits s ≡ false
-        present-values h = rw (ranges, le-leb (2 * params_end s) (length codes) k, lt-leb (1 * params_end s) (length values) (omega arith))
-
-        module _ (v : params_end s ≤ length values) where
-          last-range : present_formed codes values limits s ≡ (leb (3 * limits_end s) (length limits) && each_formed codes values limits s)
-          last-range = rw (ranges, le-leb (2 * params_end s) (length codes) k, le-leb (1 * params_end s) (length values) (omega arith))
-
-          pub present-limits : length limits < 3 * limits_end s → present_formed codes values limits s ≡ false
-          present-limits h = rw (last-range, lt-leb (3 * limits_end s) (length limits) h)
-
-          pub present-ranged : 3 * limits_end s ≤ length limits → present_formed codes values limits s ≡ each_formed codes values limits s
-          present-ranged h = rw (last-range, le-leb (3 * limits_end s) (length limits) h)
-
 -- ---- there are seven types
 pub type-below : (t : TrainType) → type_number t < 7
 unfolding type_number
@@ -138,11 +92,6 @@ type-below Intermodal = lit< tt
 type-below HighSpeedPassenger = lit< tt
 type-below TiltTrain = lit< tt
 type-below Commuter = lit< tt
-
--- ---- a place without a set is well formed
-pub set-absent : (codes : List ℕ) (values limits : List Float) {s set : SpeedSet} → s ≡ set → s.present ≡ 0 → set_formed codes values limits set ≡ true
-unfolding set_formed
-set-absent codes values limits e z = rw (← e, z)
 
 -- ---- a set looked up
 -- number and set tell two answers apart

@@ -1,11 +1,13 @@
 -- Questions 4 to 7 (R107 to R110), put to one link and to a list of links. Definitions only.
-use Rattle.std.specs.Prelude.{ℕ, ◌+◌, ◌*◌, Bool, true, false, cond, not, ◌&&◌, ◌||◌, List, [], ◌∷◌, map, ◌==◌, nat_le, slice_index, Float, Option, Some, None}
+use Rattle.std.specs.Prelude.{ℕ, ◌+◌, ◌*◌, Bool, true, false, cond, not, ◌&&◌, ◌||◌, List, [], ◌∷◌, map, length, ◌==◌, nat_le, slice_index, Float, Option, Some, None}
 use Rattle.std.specs.Float.Ieee as Ieee
 use Rattle.std.specs.Float.Ieee.Scale.{finite}
 use Rattle.ieee.specs.Number.{+0}
 use Rattle.link.specs.declared.train_params.TrainType.{TrainType}
 use Rattle.link.specs.declared.speed_set.SpeedSet.{SpeedSet}
 use Rattle.link.specs.declared.network.LinkNumbers.{LinkNumbers}
+use Rattle.link.specs.declared.questions.Numbers.{Numbers}
+use Rattle.link.specs.declared.questions.Numbers.TheVariants.{Listed, OfPoints}
 use Rattle.link.specs.Lists.{every, up_from, first_no}
 use Rattle.link.specs.Condition.{condition_formed}
 use Rattle.link.specs.Table.{LinkTable, Sample, Limit, PowerLimit, in_table, numbers_of, link_at, set_at, inside, is_present, conditions_of, limits_of, set_for, set_told}
@@ -109,6 +111,15 @@ number_at points list k = cond points (slice_index list (4 * k + 3)) (slice_inde
 
 abbrev pub numbers : Bool → List ℕ → ℕ → List ℕ
 numbers points list count = up_from (number_at points list) 0 count
+
+-- the numbers as the code passes them
+abbrev pub number_in : Numbers → ℕ → ℕ
+number_in (Listed list) k = number_at false list.now k
+number_in (OfPoints list count) k = number_at true list.now k
+
+abbrev pub numbers_in : Numbers → List ℕ
+numbers_in (Listed list) = numbers false list.now (length list.now)
+numbers_in (OfPoints list count) = numbers true list.now count
 
 unfoldable pub question4 : List ℕ → List Float → List ℕ → List ℕ → Option ℕ
 unfolding real_in

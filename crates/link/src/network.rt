@@ -6,7 +6,7 @@ ghost use Rattle.link.specs.Questions.{real_in, follows, set_formed, in_pools, w
 
 use crate::cat_power::limits_formed;
 use crate::elev::samples_formed;
-use crate::speed_set::{set_at, set_formed};
+use crate::speed_set::set_at;
 use si::Length;
 
 // The link table, lent column by column: what each link has, and the pools that the links' firsts and counts point into.
@@ -41,6 +41,7 @@ pub struct LinkNumbers {
 }
 
 // The numbers of link i.
+#[tactic(auto, unfolding(crate::specs::Table::numbers_of))]
 pub fn link_numbers(links: &[u32], i: usize) -> LinkNumbers
     requires { i < 2 ^ 40 }
     ensures { result ≡ numbers_of links.now i }
@@ -62,6 +63,7 @@ pub fn link_numbers(links: &[u32], i: usize) -> LinkNumbers
 }
 
 // Question 5: the link follows prev, and its alternatives are other links or none.
+#[tactic(auto, unfolding(crate::specs::Questions::follows))]
 pub fn link_follows(prev: u32, link: LinkNumbers) -> bool
     ensures { result ≡ follows prev link }
 {
@@ -79,6 +81,7 @@ pub fn link_follows(prev: u32, link: LinkNumbers) -> bool
 
 impl Network<'_> {
     // Whether the numbers, the length and the set places of link i lie in their columns.
+    #[tactic(auto, unfolding(crate::specs::Table::in_table))]
     pub fn in_table(&self, i: usize) -> bool
         ensures { result ≡ in_table self.now.links.now self.now.lengths.now self.now.sets.now i }
     {
@@ -92,6 +95,7 @@ impl Network<'_> {
     }
 
     // Question 4 of a link number: it is not 0, and in the table.
+    #[tactic(auto, unfolding(crate::specs::Questions::real_in))]
     pub fn real_in(&self, n: u32) -> bool
         ensures { result ≡ real_in self.now.links.now self.now.lengths.now self.now.sets.now n }
     {
@@ -102,6 +106,7 @@ impl Network<'_> {
     }
 
     // Whether the ranges of elevations, headings and power limits of a link with the numbers n lie inside their pools.
+    #[tactic(auto, unfolding(crate::specs::Questions::in_pools))]
     pub fn in_pools(&self, n: LinkNumbers) -> bool
         ensures { result ≡ in_pools self.now.elevs.now self.now.headings.now self.now.powers.now self.now.districts.now n }
     {
@@ -119,6 +124,7 @@ impl Network<'_> {
     }
 
     // Question 6 of place p of link i; where no set is present only the flag is read.
+    #[tactic(auto, unfolding(crate::specs::Questions::set_formed))]
     pub fn place_formed(&self, i: usize, p: usize) -> bool
         requires i_bound { i < 2 ^ 40 }
         requires p_bound { p < 8 }
@@ -127,12 +133,7 @@ impl Network<'_> {
         if set_at(self.sets, i, p).present == 0 {
             return true;
         }
-        set_formed(
-            self.codes,
-            self.values,
-            self.limits,
-            set_at(self.sets, i, p),
-        )
+        self.set_formed(set_at(self.sets, i, p))
     }
 
     // Question 6 of the eight set places of link i.
@@ -144,6 +145,7 @@ impl Network<'_> {
     }
 
     // Question 6 of link n.
+    #[tactic(auto, using(crate::proofs::Judging::well_formed_asks, crate::proofs::Judging::literal_zero, std::proofs::lemmas::Grind::common_steps))]
     pub fn well_formed(&self, n: u32) -> bool
         ensures { result ≡ well_formed (table self.now) n }
     {

@@ -1,5 +1,5 @@
 // Questions 4 to 7 over a list of link numbers: the first position that fails.
-ghost use Rattle.std.specs.Prelude.{◌≡◌, false, length};
+ghost use Rattle.std.specs.Prelude.{◌≡◌, true, false, length};
 ghost use Rattle.link.specs.Table.{table};
 ghost use Rattle.link.specs.Questions as spec;
 
@@ -7,14 +7,40 @@ use crate::network::{Network, link_follows, link_numbers};
 use crate::speed_set::set_for;
 use crate::train_params::TrainType;
 
-// The number at position k of a plain list, or of link points, four numbers to a point.
-pub fn number_at(list: &[u32], points: bool, k: usize) -> u32
-    ensures { result ≡ spec.number_at points list.now k }
+// Link numbers: a plain list, or those of the first so many link points, four numbers to a point.
+#[derive(Clone, Copy)]
+pub enum Numbers<'a> {
+    Listed(&'a [u32]),
+    OfPoints(&'a [u32], usize),
+}
+
+// The number of link point k.
+pub fn point_number(list: &[u32], k: usize) -> u32
+    ensures { result ≡ spec.number_at true list.now k }
 {
-    if points {
-        return column::record_at::<column::Four>(list, k).3;
+    column::record_at::<column::Four>(list, k).3
+}
+
+impl Numbers<'_> {
+    // How many there are.
+    pub fn len(&self) -> usize
+        ensures { result ≡ length (spec.numbers_in self.now) }
+    {
+        match self {
+            Numbers::Listed(list) => list.len(),
+            Numbers::OfPoints(_, count) => *count,
+        }
     }
-    column::get(list, k)
+
+    // The number at position k.
+    pub fn at(&self, k: usize) -> u32
+        ensures { result ≡ spec.number_in self.now k }
+    {
+        match self {
+            Numbers::Listed(list) => column::get(*list, k),
+            Numbers::OfPoints(list, _) => point_number(*list, k),
+        }
+    }
 }
 
 // Question 5 of a list: each link follows the one before, the first the path's last link where it has one.
@@ -35,26 +61,26 @@ pub fn question5(list: &[u32], links: &[u32], last: Option<u32>) -> Option<usize
 }
 
 impl Network<'_> {
-    // Question 4 of the first `count` numbers.
-    pub fn question4(&self, list: &[u32], points: bool, count: usize) -> Option<usize>
-        ensures { result ≡ spec.question4 self.now.links.now self.now.lengths.now self.now.sets.now (spec.numbers points list.now count) }
+    // Question 4 of link numbers.
+    pub fn question4(&self, numbers: &Numbers) -> Option<usize>
+        ensures { result ≡ spec.question4 self.now.links.now self.now.lengths.now self.now.sets.now (spec.numbers_in numbers.now) }
     {
-        (0..count).find(|&k| !self.real_in(number_at(list, points, k)))
+        (0..numbers.len()).find(|&k| !self.real_in(numbers.at(k)))
     }
 
-    // Question 6 of the first `count` numbers.
-    pub fn question6(&self, list: &[u32], points: bool, count: usize) -> Option<usize>
-        ensures { result ≡ spec.question6 (table self.now) (spec.numbers points list.now count) }
+    // Question 6 of link numbers.
+    pub fn question6(&self, numbers: &Numbers) -> Option<usize>
+        ensures { result ≡ spec.question6 (table self.now) (spec.numbers_in numbers.now) }
     {
-        (0..count).find(|&k| !self.well_formed(number_at(list, points, k)))
+        (0..numbers.len()).find(|&k| !self.well_formed(numbers.at(k)))
     }
 
-    // Question 7 of the first `count` numbers.
-    pub fn question7(&self, list: &[u32], points: bool, count: usize, t: TrainType) -> Option<usize>
-        ensures { result ≡ spec.question7 self.now.sets.now t (spec.numbers points list.now count) }
+    // Question 7 of link numbers.
+    pub fn question7(&self, numbers: &Numbers, t: TrainType) -> Option<usize>
+        ensures { result ≡ spec.question7 self.now.sets.now t (spec.numbers_in numbers.now) }
     {
-        for k in 0..count {
-            let n = number_at(list, points, k);
+        for k in 0..numbers.len() {
+            let n = numbers.at(k);
             // this is the refusal with number 7, at place k
             let Some(_) = set_for(self.sets, n as usize, t) else {
                 return Some(k);

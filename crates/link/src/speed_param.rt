@@ -3,6 +3,7 @@ ghost use Rattle.std.specs.Prelude.{◌≡◌, ◌^◌, ◌<◌};
 ghost use Rattle.link.specs.Condition.{param_of, param_told, by_code, compares_float, compares_count, axle_limit, param_holds, holds, condition_formed};
 ghost use Rattle.link.specs.Table.{condition_at};
 
+use crate::network::Network;
 use crate::train_params::TrainParams;
 
 // A condition carries its limit value with its kind.
@@ -14,6 +15,7 @@ pub enum SpeedParam {
 }
 
 // The kind's code and the value as a condition; the codes are the Rust's, 3 to 5.
+#[tactic(auto, unfolding(crate::specs::Condition::param_of))]
 fn speed_param(kind: u32, v: f64) -> Option<SpeedParam>
     ensures { param_told result ≡ param_told (param_of kind v) }
 {
@@ -26,6 +28,7 @@ fn speed_param(kind: u32, v: f64) -> Option<SpeedParam>
 }
 
 // Comparison codes 1 to 5: =, >, <, >=, <=. Which of the five a code asks for; none for another code.
+#[tactic(auto, unfolding(crate::specs::Condition::by_code))]
 fn by_code(
     code: u32,
     equal: bool,
@@ -87,6 +90,7 @@ fn axle_limit(v: f64) -> u32
 }
 
 // Whether the train's figure compares so with the limit value.
+#[tactic(auto, unfolding(crate::specs::Condition::param_holds))]
 fn param_holds(train: TrainParams, code: u32, p: Option<SpeedParam>) -> bool
     ensures { result ≡ param_holds train code p }
 {
@@ -100,7 +104,7 @@ fn param_holds(train: TrainParams, code: u32, p: Option<SpeedParam>) -> bool
     }
 }
 
-// Whether condition i of the pool holds for the train.
+// Whether condition i of the pool holds for the train. No method of Network: crate view lends the sets, the codes and the values alone.
 pub fn condition_holds(codes: &[u32], values: &[f64], i: usize, train: TrainParams) -> bool
     requires { i < 2 ^ 40 }
     ensures { result ≡ holds train (condition_at codes.now values.now i) }
@@ -111,22 +115,25 @@ pub fn condition_holds(codes: &[u32], values: &[f64], i: usize, train: TrainPara
     param_holds(train, code, speed_param(kind, v))
 }
 
-// Question 6 of condition i: its codes are known, and its value is finite.
-pub fn condition_formed(codes: &[u32], values: &[f64], i: usize) -> bool
-    requires { i < 2 ^ 40 }
-    ensures { result ≡ condition_formed (condition_at codes.now values.now i) }
-{
-    let kind = column::get(codes, 2 * i);
-    let code = column::get(codes, 2 * i + 1);
-    let v = column::get(values, i);
-    let Some(_) = speed_param(kind, v) else {
-        return false;
-    };
-    if code < 1 {
-        return false;
+impl Network<'_> {
+    // Question 6 of condition i: its codes are known, and its value is finite.
+    #[tactic(auto, unfolding(crate::specs::Condition::condition_formed))]
+    pub fn condition_formed(&self, i: usize) -> bool
+        requires { i < 2 ^ 40 }
+        ensures { result ≡ condition_formed (condition_at self.now.codes.now self.now.values.now i) }
+    {
+        let kind = column::get(self.codes, 2 * i);
+        let code = column::get(self.codes, 2 * i + 1);
+        let v = column::get(self.values, i);
+        let Some(_) = speed_param(kind, v) else {
+            return false;
+        };
+        if code < 1 {
+            return false;
+        }
+        if 5 < code {
+            return false;
+        }
+        ieee::is_finite(v)
     }
-    if 5 < code {
-        return false;
-    }
-    ieee::is_finite(v)
 }

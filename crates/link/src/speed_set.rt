@@ -6,7 +6,7 @@ ghost use Rattle.link.specs.Table.{set_at, set_for, set_told, condition_at};
 ghost use Rattle.link.specs.Questions.{present_formed, set_formed};
 
 use crate::cat_power::limits_formed;
-use crate::speed_param::condition_formed;
+use crate::network::Network;
 use crate::train_params::{TrainType, type_number};
 
 // A set place: flags are 0 or 1 if they are known; first and count of its conditions and of its limits.
@@ -21,6 +21,7 @@ pub struct SpeedSet {
 }
 
 // Place p of link i.
+#[tactic(auto, unfolding(crate::specs::Table::set_at))]
 pub fn set_at(sets: &[u32], i: usize, p: usize) -> SpeedSet
     requires i_bound { i < 2 ^ 40 }
     requires p_bound { p < 8 }
@@ -37,7 +38,8 @@ pub fn set_at(sets: &[u32], i: usize, p: usize) -> SpeedSet
     }
 }
 
-// The single set of link i, or the one for the train's type.
+// The single set of link i, or the one for the train's type. No method of Network: crate view lends the sets alone.
+#[tactic(auto, unfolding(crate::specs::Table::set_for))]
 pub fn set_for(sets: &[u32], i: usize, t: TrainType) -> Option<SpeedSet>
     requires { i < 2 ^ 40 }
     ensures { set_told result ≡ set_told (set_for (set_at sets.now i) t) }
@@ -53,52 +55,56 @@ pub fn set_for(sets: &[u32], i: usize, t: TrainType) -> Option<SpeedSet>
     None
 }
 
-// Question 6 of `count` conditions from `first` on.
-fn conditions_formed(codes: &[u32], values: &[f64], first: usize, count: usize) -> bool
-    requires { first + count < 2 ^ 40 }
-    ensures { result ≡ every condition_formed (up_from (condition_at codes.now values.now) first count) }
-{
-    (first..first + count).all(|i| condition_formed(codes, values, i))
-}
+impl Network<'_> {
+    // Question 6 of `count` conditions from `first` on.
+    fn conditions_formed(&self, first: usize, count: usize) -> bool
+        requires { first + count < 2 ^ 40 }
+        ensures { result ≡ every condition_formed (up_from (condition_at self.now.codes.now self.now.values.now) first count) }
+    {
+        (first..first + count).all(|i| self.condition_formed(i))
+    }
 
-// Question 6 of a set that is present.
-fn present_formed(codes: &[u32], values: &[f64], limits: &[f64], s: SpeedSet) -> bool
-    ensures { result ≡ present_formed codes.now values.now limits.now s }
-{
-    let params = s.params_first as usize;
-    let params_count = s.params_count as usize;
-    let first = s.limits_first as usize;
-    let count = s.limits_count as usize;
-    if 1 < s.is_head_end {
-        return false;
+    // Question 6 of a set that is present.
+    #[tactic(auto, unfolding(crate::specs::Questions::present_formed))]
+    fn present_formed(&self, s: SpeedSet) -> bool
+        ensures { result ≡ present_formed self.now.codes.now self.now.values.now self.now.limits.now s }
+    {
+        let params = s.params_first as usize;
+        let params_count = s.params_count as usize;
+        let first = s.limits_first as usize;
+        let count = s.limits_count as usize;
+        if 1 < s.is_head_end {
+            return false;
+        }
+        if 64 < params_count {
+            return false;
+        }
+        if self.codes.len() < 2 * (params + params_count) {
+            return false;
+        }
+        if self.values.len() < params + params_count {
+            return false;
+        }
+        if self.limits.len() < 3 * (first + count) {
+            return false;
+        }
+        if !self.conditions_formed(params, params_count) {
+            return false;
+        }
+        limits_formed(self.limits, first, count)
     }
-    if 64 < params_count {
-        return false;
-    }
-    if codes.len() < 2 * (params + params_count) {
-        return false;
-    }
-    if values.len() < params + params_count {
-        return false;
-    }
-    if limits.len() < 3 * (first + count) {
-        return false;
-    }
-    if !conditions_formed(codes, values, params, params_count) {
-        return false;
-    }
-    limits_formed(limits, first, count)
-}
 
-// Question 6 of a set place: the flag is known, and a set that is present is well formed.
-pub fn set_formed(codes: &[u32], values: &[f64], limits: &[f64], s: SpeedSet) -> bool
-    ensures { result ≡ set_formed codes.now values.now limits.now s }
-{
-    if 1 < s.present {
-        return false;
+    // Question 6 of a set place: the flag is known, and a set that is present is well formed.
+    #[tactic(auto, unfolding(crate::specs::Questions::set_formed))]
+    pub fn set_formed(&self, s: SpeedSet) -> bool
+        ensures { result ≡ set_formed self.now.codes.now self.now.values.now self.now.limits.now s }
+    {
+        if 1 < s.present {
+            return false;
+        }
+        if s.present == 0 {
+            return true;
+        }
+        self.present_formed(s)
     }
-    if s.present == 0 {
-        return true;
-    }
-    present_formed(codes, values, limits, s)
 }
