@@ -5,21 +5,28 @@ use mathlib.Core.Path.{◌≡◌, refl, sym, ap, ap₂, ◌∙◌}
 use mathlib.Core.Bool.{Bool, true, false, cond}
 use mathlib.Core.List.{List, [], ◌∷◌}
 use lib.Dec.{ltb}
-use borrow.Author.Tests.{eq-eqb, ne_eqb, le-ltb, ltb-true}
+use borrow.Author.Tests.{ne_eqb, lt-ltb, le-ltb, ltb-true}
+use Rattle.std.proofs.Common.{ltb-false}
 use lib.ListN.{length, take, drop}
 use lib.Ieee.{Float}
 use Rattle.path.specs.declared.path_tpc.PathTpc.{PathTpc}
+use Rattle.std.specs.Borrow.{Bor}
+use Rattle.std.specs.Prelude.{Result, Ok, Err}
+use Rattle.std.specs.Result.{IsErrAnd}
 use Rattle.answer.specs.declared.Answer.{Answer}
+use Rattle.answer.specs.declared.Refusal.{Refusal}
+use Rattle.answer.specs.Answers.{number, done, refusal}
+use Rattle.path.proofs.Told.{numbered}
 use Rattle.path.specs.declared.link_point.LinkPoint.{LinkPoint}
 use Rattle.path.specs.Records.{Columns, link_points, point_at, no_link_point, path_of}
-use Rattle.path.specs.Answers.{ask, in_turn}
+use Rattle.path.specs.Answers.{is_done, ask}
 use Rattle.path.specs.Sound.{sound, path_answer, total, totals, count_of}
 use Rattle.path.proofs.LinkPoints.{link_at}
-use Rattle.path.proofs.InTurn.{turn-no, turn-yes, turn-done, turn-place, first_done, last_one, ask-place, judged-done, path-place}
-use Rattle.path.proofs.Clauses.{sound-within, sound-fewer, bounds, room}
+use Rattle.path.proofs.InTurn.{turn-no, turn-yes, turn-done, first_done, last_one, judged-done}
+use Rattle.path.proofs.Clauses.{sound-within, some-link, sound-fewer, bounds, room}
 use Rattle.path_link_records.specs.declared.link_records.Range.{Range}
 use Rattle.path_link_records.specs.declared.link_records.RangeAnswer.{RangeAnswer}
-use Rattle.path_link_records.specs.LinkRecords.{Part, part_answer, range_of, link_range_of, part_of, handed_back, link_grades_of, link_curves_of}
+use Rattle.path_link_records.specs.LinkRecords.{part_answer, range_of, link_range_of, part_of, column_of, handed_back, link_grades_of, link_curves_of, link_records_of, part_told, range_told}
 use Rattle.path.proofs.Numbers.{take-links}
 use Rattle.path.proofs.Counts.{links-fewer, links-one-more, count-of-totals}
 
@@ -67,13 +74,12 @@ part-is count os ns k col {r} e =
     let d : r.from + r.len - r.from ≡ r.len = omega arith in
     ap (λ (n : ℕ). take n (drop r.from col)) d ∙ ap (λ (q : Range). take q.len (drop q.from col)) e
 
--- what is handed back
-abbrev pub handed : Answer → List Float → Part
-handed a l = record { answer = a; part = l }
-
--- the records of a kind
-abbrev pub column_of : Bool → Columns → List Float
-column_of curves c = cond curves c.curves c.grades
+before-last : (k n : ℕ) → 0 < n → ltb k (n - 1) ≡ ltb (k + 1) n
+before-last k n h = go (ltb k (n - 1)) refl
+  where
+    go : (b : Bool) → ltb k (n - 1) ≡ b → b ≡ ltb (k + 1) n
+    go true e = sym (lt-ltb (k + 1) n (omega (arith, ltb-true k (n - 1) e)))
+    go false e = sym (le-ltb (k + 1) n (omega (arith, ltb-false k (n - 1) e)))
 
 module _ (k : ℕ) (p : PathTpc) (c : Columns) where
   abbrev tenth : List Answer
@@ -87,23 +93,19 @@ module _ (k : ℕ) (p : PathTpc) (c : Columns) where
     part-first h = turn-no (path_answer true p c) tenth e h
 
     module _ (t : r.number ≡ 0) where
-      pub part-10 : part_answer k p c ≡ ask 10 (ltb (k + 1) p.link_count)
-      unfolding part_answer
-      part-10 = turn-yes (path_answer true p c) tenth e t ∙ last_one 9 (ltb (k + 1) p.link_count)
+      pub some-points : 0 < p.link_count
+      some-points = some-link p c (sound-within p c (judged-done true p c e t).2).0
 
-      pub part-past : p.link_count ≤ k → part_answer k p c ≡ ask 10 false
-      part-past h = part-10 ∙ ap (ask 10) (le-ltb (k + 1) p.link_count (omega arith))
+      pub part-10 : {b : Bool} → b ≡ ltb k (p.link_count - 1) → ask 10 b ≡ part_answer k p c
+      unfolding part_answer
+      part-10 f = ap (ask 10) (f ∙ before-last k p.link_count some-points) ∙ sym (turn-yes (path_answer true p c) tenth e t ∙ last_one 9 (ltb (k + 1) p.link_count))
 
   -- what a call that is not refused knows
-  part-done : (part_answer k p c).number ≡ 0 → (sound p c ≡ true) × (k + 1 < p.link_count)
+  part-done : done ≡ part_answer k p c → (sound p c ≡ true) × (k + 1 < p.link_count)
   unfolding part_answer
   part-done e =
-      let first = turn-done (path_answer true p c) tenth e in
+      let first = turn-done (path_answer true p c) tenth (ap (λ (a : Answer). a.number) (sym e)) in
       ((judged-done true p c refl first.0).2, ltb-true (k + 1) p.link_count (first_done 9 [] (ltb (k + 1) p.link_count) first.1).0)
-
-  part-place : (part_answer k p c).place ≡ 0
-  unfolding part_answer in_turn
-  part-place = turn-place (path_answer true p c) tenth (path-place true p c) (ask-place 10 (ltb (k + 1) p.link_count) [] refl)
 
   -- ---- the counts lie within the column
   module _ (h : sound p c ≡ true) where
@@ -119,68 +121,75 @@ module _ (k : ℕ) (p : PathTpc) (c : Columns) where
 
   module _ (curves : Bool) where
     -- ---- what is handed back
-    -- the call for either kind
-    abbrev pub parts_of : Part
-    parts_of = cond curves (link_curves_of k p c) (link_grades_of k p c)
+    abbrev own_part : List Float
+    own_part = part_of (count_of curves) k (path_of p c).links (column_of curves c)
 
-    parts : parts_of ≡ handed_back (part_answer k p c) (part_of (count_of curves) k (path_of p c).links (column_of curves c))
+    parts : link_records_of curves k p c ≡ handed_back (part_answer k p c) own_part
     unfolding link_grades_of link_curves_of
     parts = go curves
       where
-        go : (b : Bool) → cond b (link_curves_of k p c) (link_grades_of k p c) ≡ handed_back (part_answer k p c) (part_of (count_of b) k (path_of p c).links (column_of b c))
+        go : (b : Bool) → link_records_of b k p c ≡ handed_back (part_answer k p c) (part_of (count_of b) k (path_of p c).links (column_of b c))
         go true = refl
         go false = refl
 
-    -- the answer as the code gives it: its number alone
-    answered : {a : Answer} → a ≡ part_answer k p c → record { number = a.number; place = 0 } ≡ part_answer k p c
-    answered e = ap₂ (λ (n i : ℕ). record { number = n; place = i }) (ap (λ (b : Answer). b.number) e) (sym part-place)
+    abbrev answered : Answer → Range → RangeAnswer
+    answered a r = record { answer = a; range = cond (is_done a) r (record { from = 0; len = 0 }) }
 
-    -- a is the code's answer to all the questions
-    module _ {a : Answer} (e : a ≡ part_answer k p c) where
-      pub none-handed : (a.number ≡ 0 → ⊥) → handed (record { number = a.number; place = 0 }) [] ≡ parts_of
-      none-handed h =
-          let z = ne_eqb (part_answer k p c).number 0 (λ t. h (ap (λ (b : Answer). b.number) e ∙ t)) in
-          ap₂ handed (answered e) (ap (λ (b : Bool). cond b (part_of (count_of curves) k (path_of p c).links (column_of curves c)) []) (sym z)) ∙ sym parts
+    abbrev own_range : Range
+    own_range = range_of (count_of curves) k (path_of p c).links
 
-      pub no-range : (a.number ≡ 0 → ⊥) → ◌≡◌ {A = RangeAnswer} (record { answer = a; range = record { from = 0; len = 0 } }) (link_range_of curves k p c)
-      unfolding link_range_of
-      no-range h =
-          let z = ne_eqb (part_answer k p c).number 0 (λ t. h (ap (λ (b : Answer). b.number) e ∙ t)) in
-          ap₂ (λ (b : Answer) (r : Range). record { answer = b; range = r }) e (ap (λ (b : Bool). cond b (range_of (count_of curves) k (path_of p c).links) (record { from = 0; len = 0 })) (sym z))
+    -- a refusal that `?` hands on
+    pub none-handed : (s : Result (Bor (List Float)) Refusal) (f : Refusal) → refusal f ≡ part_answer k p c → IsErrAnd s (λ g. g ≡ f) → part_told s ≡ link_records_of curves k p c
+    none-handed (Ok l) f e h = absurd h
+    none-handed (Err g) f e h =
+        ap (λ (r : Refusal). record { answer = refusal r; part = [] }) h
+        ∙ ap (λ (b : Bool). record { answer = refusal f; part = cond b own_part [] }) (sym (ne_eqb (number f.question) 0 (numbered f.question)))
+        ∙ ap (λ (a : Answer). handed_back a own_part) e
+        ∙ sym parts
 
-      module _ (t : a.number ≡ 0) where
-        done-number : (part_answer k p c).number ≡ 0
-        done-number = ap (λ (b : Answer). b.number) (sym e) ∙ t
+    pub no-range : (s : Result Range Refusal) (f : Refusal) → refusal f ≡ part_answer k p c → IsErrAnd s (λ g. g ≡ f) → range_told s ≡ link_range_of curves k p c
+    unfolding link_range_of
+    no-range (Ok r) f e h = absurd h
+    no-range (Err g) f e h =
+        ap (λ (r : Refusal). range_told (Err r)) h
+        ∙ ap (λ (b : Bool). record { answer = refusal f; range = cond b own_range (record { from = 0; len = 0 }) }) (sym (ne_eqb (number f.question) 0 (numbered f.question)))
+        ∙ ap (λ (a : Answer). answered a own_range) e
 
-        -- what `link_part` asks for
-        pub inside :
-            (k < 1025)
-            × ((total (count_of curves) (link_points (k + 1) c.offsets c.numbers) ≤ 16384)
-            × (3 * total (count_of curves) (link_points (k + 1) c.offsets c.numbers) ≤ length (column_of curves c)))
-        inside =
-            let known = part-done done-number in
-            let few = (bounds p c (sound-within p c known.0).1).0 in
-            let fewer = links-fewer (count_of curves) c.offsets c.numbers (k + 1) p.link_count (omega arith) in
-            (omega arith, (omega (arith, counts-bounded known.0 curves, fewer), omega (arith, counts-within known.0 curves, fewer)))
+    -- the questions are answered with yes
+    module _ (e : done ≡ part_answer k p c) where
+      -- what `record_range` asks for
+      pub inside :
+          (k < 1025)
+          × ((total (count_of curves) (link_points (k + 1) c.offsets c.numbers) ≤ 16384)
+          × (3 * total (count_of curves) (link_points (k + 1) c.offsets c.numbers) ≤ length (column_of curves c)))
+      inside =
+          let known = part-done e in
+          let few = (bounds p c (sound-within p c known.0).1).0 in
+          let fewer = links-fewer (count_of curves) c.offsets c.numbers (k + 1) p.link_count (omega arith) in
+          (omega arith, (omega (arith, counts-bounded known.0 curves, fewer), omega (arith, counts-within known.0 curves, fewer)))
 
-        pub range-handed :
-            {r : Range}
-            → r ≡ range_of (count_of curves) k (link_points (k + 1) c.offsets c.numbers)
-            → ◌≡◌ {A = RangeAnswer} (record { answer = a; range = r }) (link_range_of curves k p c)
+      -- r is the range as the code finds it, and col the column
+      module _ {r : Range} (g : r ≡ range_of (count_of curves) k (link_points (k + 1) c.offsets c.numbers)) where
+        same : r ≡ range_of (count_of curves) k (link_points p.link_count c.offsets c.numbers)
+        same = let known = part-done e in g ∙ range_same (count_of curves) c.offsets c.numbers k p.link_count (omega arith)
+
+        pub range-handed : range_told (Ok r) ≡ link_range_of curves k p c
         unfolding link_range_of path_of
-        range-handed g =
-            let z = eq-eqb (part_answer k p c).number 0 done-number in
-            let known = part-done done-number in
-            let l = g ∙ range_same (count_of curves) c.offsets c.numbers k p.link_count (omega arith) in
-            ap₂ (λ (b : Answer) (r : Range). record { answer = b; range = r }) e (l ∙ ap (λ (b : Bool). cond b (range_of (count_of curves) k (path_of p c).links) (record { from = 0; len = 0 })) (sym z))
+        range-handed = ap (answered done) same ∙ ap (λ (a : Answer). answered a own_range) e
 
-        pub part-handed :
-            {l : List Float}
-            → l ≡ part_of (count_of curves) k (link_points (k + 1) c.offsets c.numbers) (column_of curves c)
-            → handed (record { number = a.number; place = 0 }) l ≡ parts_of
-        unfolding path_of part_of
-        part-handed g =
-            let z = eq-eqb (part_answer k p c).number 0 done-number in
-            let known = part-done done-number in
-            let l = g ∙ ap (λ (r : Range). take r.len (drop r.from (column_of curves c))) (range_same (count_of curves) c.offsets c.numbers k p.link_count (omega arith)) in
-            ap₂ handed (answered e) (l ∙ ap (λ (b : Bool). cond b (part_of (count_of curves) k (path_of p c).links (column_of curves c)) []) (sym z)) ∙ sym parts
+        pub range-few : r.from + r.len ≤ 49152
+        range-few = let known = inside.1.0 in omega (arith, range-end (count_of curves) c.offsets c.numbers k g)
+
+        module _ {col : List Float} (h : col ≡ column_of curves c) where
+          pub range-within : r.from + r.len ≤ length col
+          range-within = let known = inside.1.1 in omega (arith, range-end (count_of curves) c.offsets c.numbers k g, ap length h)
+
+          pub part-handed : handed_back done (take (r.from + r.len - r.from) (drop r.from col)) ≡ link_records_of curves k p c
+          unfolding path_of part_of
+          part-handed =
+              ap (handed_back done)
+              (part-is (count_of curves) c.offsets c.numbers k col g
+              ∙ ap (λ (l : List Float). part_of (count_of curves) k (link_points (k + 1) c.offsets c.numbers) l) h
+              ∙ ap (λ (q : Range). take q.len (drop q.from (column_of curves c))) (sym g ∙ same))
+              ∙ ap (λ (a : Answer). handed_back a own_part) e
+              ∙ sym parts

@@ -1,23 +1,22 @@
--- `link_range`: refused with nothing from 0, or the range of the link's records.
-use mathlib.Core.Path.{◌∙◌}
-use Rattle.path.specs.Records.{columns}
+-- `link_range`: refused, or the range of the link's records.
+use Rattle.path.specs.Records.{lent}
+use Rattle.path.specs.Sound.{is_curves}
+use Rattle.path.proofs.Told.{told-err, told-ok}
 use Rattle.path_link_records.proofs.LinkParts.{inside, no-range, range-handed}
 use Rattle.path_link_records.proofs.link_records.link_range.Goals as goal
 
-pub returns-then-answer-ne0 : goal.returns-then-answer-ne0
-returns-then-answer-ne0 c =
+pub returns-in_err-part_answer : goal.returns-in_err-part_answer
+returns-in_err-part_answer c =
     let a = c.args in
-    let l = columns a.offsets.now a.numbers.now a.grades.now a.curves.now a.speeds.now a.powers.now a.districts.now in
-    no-range a.k a.p l a.wants_curves (c.from-answer.ensures ∙ c.part_answer.ensures) c.if-answer-ne0.true
+    no-range a.k a.p (lent a.cols.now) (is_curves a.lines) _ _ (told-err c.part_answer.ensures c.in_err-part_answer.was) c.from_residual.ensures.1
 
 pub record_range-requires : goal.record_range-requires
 record_range-requires c =
     let a = c.args in
-    let l = columns a.offsets.now a.numbers.now a.grades.now a.curves.now a.speeds.now a.powers.now a.districts.now in
-    let known = inside a.k a.p l a.wants_curves (c.from-answer.ensures ∙ c.part_answer.ensures) c.if-answer-ne0.false in record { k_bound = known.0; numbers_bound = known.1.0 }
+    let known = inside a.k a.p (lent a.cols.now) (is_curves a.lines) (told-ok c.part_answer.ensures c.in_ok-part_answer.was) in
+    record { k_bound = known.0; numbers_bound = known.1.0 }
 
 pub returns : goal.returns
 returns c =
     let a = c.args in
-    let l = columns a.offsets.now a.numbers.now a.grades.now a.curves.now a.speeds.now a.powers.now a.districts.now in
-    range-handed a.k a.p l a.wants_curves (c.from-answer.ensures ∙ c.part_answer.ensures) c.if-answer-ne0.false c.record_range.ensures
+    range-handed a.k a.p (lent a.cols.now) (is_curves a.lines) (told-ok c.part_answer.ensures c.in_ok-part_answer.was) c.record_range.ensures
