@@ -8,7 +8,7 @@ use Rattle.speed.specs.declared.speed_column.SpeedColumn.{SpeedColumn}
 use Rattle.speed.specs.Points.{Point}
 use Rattle.speed.specs.Becomes.{points_of, HasRoom, Becomes}
 use Rattle.speed.specs.Insert.{insert_speed}
-use Rattle.speed.proofs.PointColumn.{length-points, count-of, unchanged, becomes-as, becomes-on}
+use Rattle.speed.proofs.PointColumn.{length-points, count_is, unchanged, becomes-as, becomes-on}
 use Rattle.speed_laws.proofs.Kept.{count-insert, insert-some}
 use Rattle.link.specs.Table.{Limit}
 use Rattle.path_speeds.specs.Limits.{lay_all}
@@ -30,7 +30,7 @@ module _ (c₀ : SpeedColumn) (goal : List Point) (left : ℕ) (rest : List Poin
       → Going c₀ goal left' rest' d
   going_on k left' rest' d ps e l most least is =
       let n = length-points c.count c.col.now in
-      let m = count-of d.count d.col.now ps l.holds in
+      let m = count_is d.count d.col.now ps l.holds in
       let some = g.some in
       let room = g.room in
       let long = l.long in
