@@ -15,6 +15,7 @@ use crate::add_speeds::{lay_links, points_count, points_finite};
 use answer::{Question, Refusal};
 use column::{Two, put_record};
 use link::network::Network;
+use link::questions::Numbers;
 use link::train_params::TrainParams;
 use path::columns::{PathColumns, PathColumnsMut};
 use path::finite::train_finite;
@@ -57,7 +58,8 @@ fn recalc_answer(
 {
     path_answer(p, train_finite(train), cols)?;
     let count = p.link_count - 1;
-    links_answer(cols.numbers, true, count, None, network, train.train_type)?;
+    let numbers = Numbers::OfPoints(cols.numbers, count);
+    links_answer(&numbers, None, network, train.train_type)?;
     limits_answer(cols, count, network, train.length, train)
 }
 
