@@ -8,6 +8,7 @@ use crate::path_tpc::PathTpc;
 
 impl PathColumnsMut<'_> {
     // They become zero.
+    #[tactic(auto, using(crate::proofs::Clauses::bounds))]
     pub fn zero_rest(&mut self, p: PathTpc)
         requires { within_bounds p (held self.old) ≡ true }
         ensures same { Same self.old self.new }
