@@ -38,20 +38,3 @@ module _ (train : TrainParams) (t : LinkTable) (ns : List ℕ) (p : PathTpc) (c 
       → (points && (slopes && (bends && (speed && drawn)))) ≡ records_fit train t ns p c
   unfolding records_fit counts_of
   all_fit e₁ e₂ e₃ e₄ e₅ e₆ e₇ = rw (e₃, e₄, e₅, e₆, e₇, e₁, e₂)
-
--- ---- what the code counts is no more than a u32 for each listed link
-pub counts-summed :
-    (links ns : List ℕ)
-    → ((k : ℕ) → Fits w32 (get_or links k 0))
-    → {sum : Counts}
-    → sum ≡ counts_of links ns
-    → (sum.grades ≤ length ns * 2 ^ 32) × (sum.curves ≤ length ns * 2 ^ 32) × (sum.powers ≤ length ns * 2 ^ 32)
-unfolding counts_of
-counts-summed links ns known e = (
-  omega (arith, ap (λ (s : Counts). s.grades) e, sum-small (grades_in links) (grades-small links known) ns),
-  omega (arith, ap (λ (s : Counts). s.curves) e, sum-small (curves_in links) (curves-small links known) ns),
-  omega (arith, ap (λ (s : Counts). s.powers) e, sum-small (powers_in links) (powers-small links known) ns),
-)
-
-pub limits-summed : (train : TrainParams) (q : SpeedSets) (ns : List ℕ) → ((k : ℕ) → Fits w32 (get_or q.places k 0)) → {laid : ℕ} → laid ≡ sum_of (count_at train q) ns → laid ≤ length ns * 2 ^ 32
-limits-summed train q ns known e = omega (arith, e, sum-small (count_at train q) (λ (n : ℕ). count_small train q n known) ns)

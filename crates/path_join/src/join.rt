@@ -14,7 +14,7 @@ ghost use Rattle.path_join.specs.ByKind as kinds;
 
 use column::Four;
 use link::elev::elev_at;
-use link::network::link_numbers;
+use link::network::{Network, link_numbers};
 use link::train_params::TrainParams;
 use lookup::path_res_coeff::{PathResCoeff, coeff_at, put_coeff};
 use path::lines::Lines;
@@ -23,26 +23,26 @@ use path_stretches::walk::{lay_stretches, stretch_count};
 use si::Length;
 
 // Where the grades of link i end that begin at base.
-fn grade_end(links: &[u32], lengths: &[f64], elevs: &[f64], base: Length, i: usize) -> Length
+fn grade_end(network: &Network, base: Length, i: usize) -> Length
     requires { i < 2 ^ 40 }
-    ensures { result.0 ≡ grade_end (rises links.now lengths.now elevs.now) base.0 i }
+    ensures { result.0 ≡ grade_end (rises network.now.links.now network.now.lengths.now network.now.elevs.now) base.0 i }
 {
-    let l = link_numbers(links, i);
+    let l = link_numbers(network.links, i);
     let first = l.elevs_first as usize;
     let count = l.elevs_count as usize;
     if count == 0 {
-        return Length(base.0 + column::get(lengths, i));
+        return Length(base.0 + column::get(network.lengths, i));
     }
     if count == 1 {
         return base;
     }
-    let last = elev_at(elevs, first + count - 1);
+    let last = elev_at(network.elevs, first + count - 1);
     Length(base.0 + last.offset.0)
 }
 
 // The net value that the listed links begin with, where it is `net` at the last of m grades.
-pub fn starting_net(m: usize, net: Length, list: &[u32], links: &[u32], elevs: &[f64]) -> Length
-    ensures { result.0 ≡ spec.starting_net links.now elevs.now m net.0 list.now }
+pub fn starting_net(m: usize, net: Length, list: &[u32], network: &Network) -> Length
+    ensures { result.0 ≡ spec.starting_net network.now.links.now network.now.elevs.now m net.0 list.now }
 {
     let begun = m != 1;
     if begun {
@@ -51,46 +51,39 @@ pub fn starting_net(m: usize, net: Length, list: &[u32], links: &[u32], elevs: &
     if list.len() == 0 {
         return net;
     }
-    let l = link_numbers(links, list[0] as usize);
+    let l = link_numbers(network.links, list[0] as usize);
     if l.elevs_count == 0 {
         return net;
     }
-    elev_at(elevs, l.elevs_first as usize).elev
+    elev_at(network.elevs, l.elevs_first as usize).elev
 }
 
 // The last of m grades gets that net value.
-pub fn start_net(grades: &mut [f64], m: usize, list: &[u32], links: &[u32], elevs: &[f64])
+pub fn start_net(grades: &mut [f64], m: usize, list: &[u32], network: &Network)
     requires m_nonzero { 0 < m }
     requires m_in_bounds { 3 * m ≤ length grades.old }
     requires grades_value { grades.old ≡ filled +0 (length grades.old) (flat triple (coeffs m grades.old)) }
     ensures { grades.new ≡ filled +0 (length grades.old)
-        (flat triple (spec.start_net links.now elevs.now (coeffs m grades.old) list.now)) }
+        (flat triple (spec.start_net network.now.links.now network.now.elevs.now (coeffs m grades.old) list.now)) }
 {
     let g = coeff_at(&*grades, m - 1);
-    let net = starting_net(m, g.res_net, list, links, elevs);
+    let net = starting_net(m, g.res_net, list, network);
     put_coeff(&mut *grades, m - 1, PathResCoeff { res_net: net, ..g });
 }
 
 // One link point more: point n - 1 becomes that of link i, and the end point follows.
-fn join_point(
-    offsets: &mut [f64],
-    numbers: &mut [u32],
-    n: usize,
-    i: usize,
-    links: &[u32],
-    lengths: &[f64],
-)
+fn join_point(offsets: &mut [f64], numbers: &mut [u32], n: usize, i: usize, network: &Network)
     requires n_nonzero { 0 < n }
     requires i_bound { i < 2 ^ 40 }
     requires n_in_bounds { n < length offsets.old }
     requires n_in_bounds_2 { 4 * (n + 1) ≤ length numbers.old }
     requires holds_points { kinds.HoldsPoints offsets.old numbers.old (link_points n offsets.old numbers.old) }
     ensures { kinds.HoldsPoints offsets.new numbers.new
-        (spec.join_point links.now lengths.now (link_points n offsets.old numbers.old) i) }
+        (spec.join_point network.now.links.now network.now.lengths.now (link_points n offsets.old numbers.old) i) }
 {
-    let l = link_numbers(links, i);
+    let l = link_numbers(network.links, i);
     let base = column::get(&*offsets, n - 1);
-    let end = column::get(lengths, i) + base;
+    let end = column::get(network.lengths, i) + base;
     let grades = stretch_count(l.elevs_count as usize) as u32;
     let curves = stretch_count(l.headings_count as usize) as u32;
     column::put_record(
@@ -108,8 +101,7 @@ pub fn join_points(
     numbers: &mut [u32],
     n: usize,
     list: &[u32],
-    links: &[u32],
-    lengths: &[f64],
+    network: &Network,
 )
     requires n_nonzero { 0 < n }
     requires list_bound { n + length list.now ≤ 1025 }
@@ -117,7 +109,7 @@ pub fn join_points(
     requires list_in_bounds_2 { 4 * (n + length list.now) ≤ length numbers.old }
     requires holds_points { kinds.HoldsPoints offsets.old numbers.old (link_points n offsets.old numbers.old) }
     ensures { kinds.HoldsPoints offsets.new numbers.new
-        (kinds.joined_points links.now lengths.now (link_points n offsets.old numbers.old)
+        (kinds.joined_points network.now.links.now network.now.lengths.now (link_points n offsets.old numbers.old)
         list.now) }
 {
     for (k, i) in list.iter().enumerate() {
@@ -126,8 +118,7 @@ pub fn join_points(
             &mut *numbers,
             n + k,
             *i as usize,
-            links,
-            lengths,
+            network,
         );
     }
 }
@@ -139,19 +130,16 @@ pub fn join_records(
     lines: Lines,
     begin: Length,
     list: &[u32],
-    links: &[u32],
-    lengths: &[f64],
-    elevs: &[f64],
-    headings: &[f64],
+    network: &Network,
     train: TrainParams,
 ) -> usize
     requires m_nonzero { 0 < m }
     requires list_len_bound { length list.now ≤ 1025 }
-    requires list_in_bounds { 3 * (m + sum_of (records_in (is_curves lines) links.now) list.now) ≤ length col.old }
+    requires list_in_bounds { 3 * (m + sum_of (records_in (is_curves lines) network.now.links.now) list.now) ≤ length col.old }
     requires col_value { col.old ≡ filled +0 (length col.old) (flat triple (coeffs m col.old)) }
     ensures { Laid col.new result (length col.old)
         (kinds.joined_records (is_curves lines) train
-        (rises links.now lengths.now elevs.now) headings.now begin.0 (coeffs m col.old)
+        (rises network.now.links.now network.now.lengths.now network.now.elevs.now) network.now.headings.now begin.0 (coeffs m col.old)
         list.now) }
 {
     let mut n = m;
@@ -159,9 +147,9 @@ pub fn join_records(
     for i in list {
         let link = *i as usize;
         n = join_record(
-            &mut *col, n, lines, base, link, links, lengths, elevs, headings, train,
+            &mut *col, n, lines, base, link, network, train,
         );
-        base = grade_end(links, lengths, elevs, base, link);
+        base = grade_end(network, base, link);
     }
     n
 }
@@ -173,26 +161,23 @@ fn join_record(
     lines: Lines,
     base: Length,
     i: usize,
-    links: &[u32],
-    lengths: &[f64],
-    elevs: &[f64],
-    headings: &[f64],
+    network: &Network,
     train: TrainParams,
 ) -> usize
     requires m_nonzero { 0 < m }
     requires i_bound { i < 2 ^ 40 }
-    requires i_in_bounds { 3 * (m + records_in (is_curves lines) links.now i) ≤ length col.old }
+    requires i_in_bounds { 3 * (m + records_in (is_curves lines) network.now.links.now i) ≤ length col.old }
     requires col_value { col.old ≡ filled +0 (length col.old) (flat triple (coeffs m col.old)) }
     ensures { Laid col.new result (length col.old)
         (spec.join_records (is_curves lines) train
-        (rises links.now lengths.now elevs.now) headings.now base.0 (coeffs m col.old) i) }
+        (rises network.now.links.now network.now.lengths.now network.now.elevs.now) network.now.headings.now base.0 (coeffs m col.old) i) }
 {
-    let l = link_numbers(links, i);
-    let length = Length(column::get(lengths, i));
+    let l = link_numbers(network.links, i);
+    let length = Length(column::get(network.lengths, i));
     let (pool, first, count) = match lines {
-        Lines::Grades => (elevs, l.elevs_first as usize, l.elevs_count as usize),
+        Lines::Grades => (network.elevs, l.elevs_first as usize, l.elevs_count as usize),
         Lines::Curves => (
-            headings,
+            network.headings,
             l.headings_first as usize,
             l.headings_count as usize,
         ),
@@ -207,19 +192,15 @@ pub fn join_powers(
     m: usize,
     begin: Length,
     list: &[u32],
-    links: &[u32],
-    lengths: &[f64],
-    elevs: &[f64],
-    link_powers: &[f64],
-    link_districts: &[u32],
+    network: &Network,
 ) -> usize
     requires list_len_bound { length list.now ≤ 1025 }
-    requires list_in_bounds { 3 * (m + sum_of (powers_in links.now) list.now) ≤ length powers.old }
-    requires list_in_bounds_2 { m + sum_of (powers_in links.now) list.now ≤ length districts.old }
+    requires list_in_bounds { 3 * (m + sum_of (powers_in network.now.links.now) list.now) ≤ length powers.old }
+    requires list_in_bounds_2 { m + sum_of (powers_in network.now.links.now) list.now ≤ length districts.old }
     requires holds_powers { HoldsPowers powers.old districts.old (power_limits m powers.old districts.old) }
     ensures { kinds.PowersLaid powers.new districts.new result
         (kinds.joined_powers
-        (rises links.now lengths.now elevs.now) link_powers.now link_districts.now
+        (rises network.now.links.now network.now.lengths.now network.now.elevs.now) network.now.powers.now network.now.districts.now
         begin.0
         (power_limits m powers.old districts.old) list.now) }
 {
@@ -227,21 +208,21 @@ pub fn join_powers(
     let mut base = begin;
     for link in list {
         let i = *link as usize;
-        let l = link_numbers(links, i);
+        let l = link_numbers(network.links, i);
         let first = l.powers_first as usize;
         let count = l.powers_count as usize;
         lay_powers(
             &mut *powers,
             &mut *districts,
             n,
-            link_powers,
-            link_districts,
+            network.powers,
+            network.districts,
             first,
             count,
             base,
         );
         n += count;
-        base = grade_end(links, lengths, elevs, base, i);
+        base = grade_end(network, base, i);
     }
     n
 }

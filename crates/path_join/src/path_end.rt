@@ -1,12 +1,12 @@
 // Question 8 of `extend`: every listed link's sums, with the path's end carried from link to link.
 ghost use Rattle.std.specs.Prelude.{◌≡◌, true, ◌<◌, ◌^◌};
 ghost use Rattle.link.specs.Lists.{every, first_no};
-ghost use Rattle.link.specs.Table.{table_of};
+ghost use Rattle.link.specs.Table.{table};
 ghost use Rattle.path_speeds.specs.Limits.{sets_of, few_at};
 ghost use Rattle.path_join.specs.Sums as spec;
 ghost use Rattle.path_join.specs.Walked.{walked};
 
-use link::network::link_numbers;
+use link::network::{Network, link_numbers};
 use link::train_params::TrainParams;
 use path::lines::Lines;
 use path_speeds::add_speeds::link_finite;
@@ -27,33 +27,22 @@ pub struct PathEnd {
 fn walk_link(
     at: PathEnd,
     i: usize,
-    links: &[u32],
-    lengths: &[f64],
-    sets: &[u32],
-    elevs: &[f64],
-    headings: &[f64],
-    limits: &[f64],
-    codes: &[u32],
-    values: &[f64],
-    link_powers: &[f64],
-    link_districts: &[u32],
+    network: &Network,
     own: Length,
     train: TrainParams,
 ) -> Option<PathEnd>
     requires i_bound { i < 2 ^ 40 }
-    requires i_value { few_at train (sets_of
-        (table_of links.now lengths.now sets.now elevs.now headings.now limits.now codes.now values.now link_powers.now link_districts.now)) i ≡ true }
-    ensures { result ≡ walked train own.0
-        (table_of links.now lengths.now sets.now elevs.now headings.now limits.now codes.now values.now link_powers.now link_districts.now) at i }
+    requires i_value { few_at train (sets_of (table network.now)) i ≡ true }
+    ensures { result ≡ walked train own.0 (table network.now) at i }
 {
-    let l = link_numbers(links, i);
-    let length = Length(column::get(lengths, i));
+    let l = link_numbers(network.links, i);
+    let length = Length(column::get(network.lengths, i));
     let first = l.elevs_first as usize;
     let count = l.elevs_count as usize;
     let net = at.grade_net;
     let slopes = walk_stretches(
         Lines::Grades,
-        elevs,
+        network.elevs,
         first,
         count,
         at.grade,
@@ -66,7 +55,7 @@ fn walk_link(
     let net = at.curve_net;
     let bends = walk_stretches(
         Lines::Curves,
-        headings,
+        network.headings,
         first,
         count,
         at.grade,
@@ -76,8 +65,8 @@ fn walk_link(
     )?;
     let first = l.powers_first as usize;
     let count = l.powers_count as usize;
-    let drawn = powers_finite(link_powers, link_districts, first, count, at.grade);
-    let laid = link_finite(sets, codes, values, limits, i, at.link, own, train);
+    let drawn = powers_finite(network.powers, network.districts, first, count, at.grade);
+    let laid = link_finite(network, i, at.link, own, train);
     let end = length.0 + at.link.0;
     let further = ieee::is_finite(end) & (at.link.0 < end);
     if !(laid & (further & drawn)) {
@@ -95,42 +84,22 @@ fn walk_link(
 pub fn sums_question(
     at: PathEnd,
     list: &[u32],
-    links: &[u32],
-    lengths: &[f64],
-    sets: &[u32],
-    elevs: &[f64],
-    headings: &[f64],
-    limits: &[f64],
-    codes: &[u32],
-    values: &[f64],
-    link_powers: &[f64],
-    link_districts: &[u32],
+    network: &Network,
     own: Length,
     train: TrainParams,
 ) -> Option<usize>
     requires { every
-        (few_at train (sets_of
-        (table_of links.now lengths.now sets.now elevs.now headings.now limits.now codes.now values.now link_powers.now link_districts.now)))
+        (few_at train (sets_of (table network.now)))
         list.now ≡ true }
     ensures { result ≡ first_no
-        (spec.sums_from train own.0
-        (table_of links.now lengths.now sets.now elevs.now headings.now limits.now codes.now values.now link_powers.now link_districts.now) at list.now) }
+        (spec.sums_from train own.0 (table network.now) at list.now) }
 {
     let mut here = at;
     for (k, i) in list.iter().enumerate() {
         let Some(after) = walk_link(
             here,
             *i as usize,
-            links,
-            lengths,
-            sets,
-            elevs,
-            headings,
-            limits,
-            codes,
-            values,
-            link_powers,
-            link_districts,
+            network,
             own,
             train,
         ) else {

@@ -4,7 +4,7 @@ use mathlib.Core.Path.{ap, ◌∙◌}
 use Rattle.link.specs.declared.network.LinkNumbers.{LinkNumbers}
 use Rattle.path_stretches.specs.Stretches.{record_count}
 use Rattle.path_join.specs.Listed.{grades_in, curves_in, powers_in}
-use Rattle.path_join.proofs.Summed.{sum_fits, sum-next, sum_done, counted, grades-small, curves-small, powers-small}
+use Rattle.path_join.proofs.Summed.{sum_fits, sum-next, sum_done, sum-small, counted, grades-small, curves-small, powers-small}
 use Rattle.path_join.proofs.fit.sum_counts.Goals as goal
 
 pub loop-i-init : goal.loop-i-init
@@ -37,11 +37,29 @@ loop-i-preserved c =
       sum-next (powers_in a.links.now) a.list.now at.i-index at.powers c.loop-i-test.true at.invariant.2 (ap (λ (l : LinkNumbers). l.powers_count) c.link_numbers-l.ensures),
     )
 
-pub returns : goal.returns
-returns c =
+pub returns-clause-sums : goal.returns-clause-sums
+returns-clause-sums c =
     let a = c.args in
     let at = c.loop-i in
     counted a.links.now a.list.now
     (sum_done (grades_in a.links.now) a.list.now at.i-index at.grades c.loop-i-test.false at.invariant.0)
     (sum_done (curves_in a.links.now) a.list.now at.i-index at.curves c.loop-i-test.false at.invariant.1)
     (sum_done (powers_in a.links.now) a.list.now at.i-index at.powers c.loop-i-test.false at.invariant.2)
+
+pub returns-clause-grades_bound : goal.returns-clause-grades_bound
+returns-clause-grades_bound c =
+    let a = c.args in
+    let at = c.loop-i in
+    omega (arith, sum_done (grades_in a.links.now) a.list.now at.i-index at.grades c.loop-i-test.false at.invariant.0, sum-small (grades_in a.links.now) (grades-small a.links.now c.type_inv.links) a.list.now)
+
+pub returns-clause-curves_bound : goal.returns-clause-curves_bound
+returns-clause-curves_bound c =
+    let a = c.args in
+    let at = c.loop-i in
+    omega (arith, sum_done (curves_in a.links.now) a.list.now at.i-index at.curves c.loop-i-test.false at.invariant.1, sum-small (curves_in a.links.now) (curves-small a.links.now c.type_inv.links) a.list.now)
+
+pub returns-clause-powers_bound : goal.returns-clause-powers_bound
+returns-clause-powers_bound c =
+    let a = c.args in
+    let at = c.loop-i in
+    omega (arith, sum_done (powers_in a.links.now) a.list.now at.i-index at.powers c.loop-i-test.false at.invariant.2, sum-small (powers_in a.links.now) (powers-small a.links.now c.type_inv.links) a.list.now)

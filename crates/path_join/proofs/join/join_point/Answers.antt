@@ -15,4 +15,4 @@ overflow_cast-curves c = record { fits = omega (arith, c.stretch_count-curves.en
 pub returns : goal.returns
 returns c =
     let a = c.args in
-    point-joined a.links.now a.lengths.now a.offsets.now a.numbers.now a.n a.i c.requires.n_nonzero c.requires.n_in_bounds c.requires.n_in_bounds_2 c.requires.holds_points c.link_numbers-l.ensures c.get-base.ensures c.get.ensures c.stretch_count-grades.ensures c.stretch_count-curves.ensures c.put_record.ensures c.set.ensures c.put_record-2.ensures c.set.auto.col (c.put_record-2.auto.col ∙ c.put_record.auto.col)
+    point-joined a.network.now.links.now a.network.now.lengths.now a.offsets.now a.numbers.now a.n a.i c.requires.n_nonzero c.requires.n_in_bounds c.requires.n_in_bounds_2 c.requires.holds_points c.link_numbers-l.ensures c.get-base.ensures c.get.ensures c.stretch_count-grades.ensures c.stretch_count-curves.ensures c.put_record.ensures c.set.ensures c.put_record-2.ensures c.set.auto.col (c.put_record-2.auto.col ∙ c.put_record.auto.col)

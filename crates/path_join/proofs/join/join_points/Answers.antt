@@ -8,7 +8,7 @@ use Rattle.path_join.proofs.join.join_points.Goals as goal
 pub loop-k-init : goal.loop-k-init
 loop-k-init c =
     let a = c.args in
-    (refl, refl, points-first a.links.now a.lengths.now a.list.now a.offsets.now a.numbers.now a.n c.requires.holds_points)
+    (refl, refl, points-first a.network.now.links.now a.network.now.lengths.now a.list.now a.offsets.now a.numbers.now a.n c.requires.holds_points)
 
 pub join_point-requires : goal.join_point-requires
 join_point-requires c = record { n_nonzero = omega (arith, c.requires.n_nonzero); i_bound = omega (arith, c.type_inv.list c.loop-k.k); n_in_bounds = omega (arith, c.requires.list_in_bounds, c.loop-k-test.true, c.loop-k.invariant.0); n_in_bounds_2 = omega (arith, c.requires.list_in_bounds_2, c.loop-k-test.true, c.loop-k.invariant.1); holds_points = c.loop-k.invariant.2.held }

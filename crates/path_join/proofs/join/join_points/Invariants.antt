@@ -9,4 +9,4 @@ use Rattle.path_join.proofs.join.join_points.Given as goal
 
 abbrev pub invariant-loop-k : goal.invariant-loop-k
 invariant-loop-k l =
-    (length l.offsets ≡ length l.initial.offsets) × (length l.numbers ≡ length l.initial.numbers) × PointsLeft l.links l.lengths (joined_points l.links l.lengths (link_points l.n l.initial.offsets l.initial.numbers) l.list) (drop l.k l.list) l.offsets l.numbers (l.n + l.k)
+    (length l.offsets ≡ length l.initial.offsets) × (length l.numbers ≡ length l.initial.numbers) × PointsLeft l.network.links.now l.network.lengths.now (joined_points l.network.links.now l.network.lengths.now (link_points l.n l.initial.offsets l.initial.numbers) l.list) (drop l.k l.list) l.offsets l.numbers (l.n + l.k)

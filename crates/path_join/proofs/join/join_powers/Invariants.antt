@@ -8,5 +8,5 @@ use Rattle.path_join.proofs.join.join_powers.Given as goal
 
 abbrev pub invariant-loop-link : goal.invariant-loop-link
 invariant-loop-link l =
-    let r = rises l.links l.lengths l.elevs in
-    PowersLeft r l.link_powers l.link_districts l.initial.powers l.initial.districts (joined_powers r l.link_powers l.link_districts l.initial.base.0 (power_limits l.m l.initial.powers l.initial.districts) l.list) (drop l.link-index l.list) l.powers l.districts l.n l.base.0
+    let r = rises l.network.links.now l.network.lengths.now l.network.elevs.now in
+    PowersLeft r l.network.powers.now l.network.districts.now l.initial.powers l.initial.districts (joined_powers r l.network.powers.now l.network.districts.now l.initial.base.0 (power_limits l.m l.initial.powers l.initial.districts) l.list) (drop l.link-index l.list) l.powers l.districts l.n l.base.0

@@ -11,11 +11,11 @@ pub lay_stretches-requires : goal.lay_stretches-requires
 lay_stretches-requires c =
     let a = c.args in
     let p = c.match-lines.first in
-    let e : (p.0.now, p.1, p.2) ≡ samples_of a.lines c.link_numbers-l.result a.elevs.now a.headings.now = elim c.match-lines.branch [ in-Grades w ↦ rw (w.in-Grades.is, w.first-is) | in-Curves w ↦ rw (w.in-Curves.is, w.first-is) ] in
+    let e : (p.0.now, p.1, p.2) ≡ samples_of a.lines c.link_numbers-l.result a.network.now.elevs.now a.network.now.headings.now = elim c.match-lines.branch [ in-Grades w ↦ rw (w.in-Grades.is, w.first-is) | in-Curves w ↦ rw (w.in-Curves.is, w.first-is) ] in
     record {
       m_nonzero = c.requires.m_nonzero;
       count_bound = elim c.match-lines.branch [ in-Grades w ↦ rw w.first-is (omega arith) | in-Curves w ↦ rw w.first-is (omega arith) ];
-      count_bound_2 = omega (arith, c.requires.i_in_bounds, lines-room a.links.now a.elevs.now a.headings.now a.i a.lines c.link_numbers-l.ensures e);
+      count_bound_2 = omega (arith, c.requires.i_in_bounds, lines-room a.network.now.links.now a.network.now.elevs.now a.network.now.headings.now a.i a.lines c.link_numbers-l.ensures e);
       col_value = c.requires.col_value;
     }
 
@@ -23,5 +23,5 @@ pub returns : goal.returns
 returns c =
     let a = c.args in
     let p = c.match-lines.first in
-    let e : (p.0.now, p.1, p.2) ≡ samples_of a.lines c.link_numbers-l.result a.elevs.now a.headings.now = elim c.match-lines.branch [ in-Grades w ↦ rw (w.in-Grades.is, w.first-is) | in-Curves w ↦ rw (w.in-Curves.is, w.first-is) ] in
-    lines-joined a.train (rises a.links.now a.lengths.now a.elevs.now) a.headings.now a.base.0 (coeffs a.m a.col.now) a.i a.lines c.link_numbers-l.ensures c.get.ensures e c.lay_stretches.ensures
+    let e : (p.0.now, p.1, p.2) ≡ samples_of a.lines c.link_numbers-l.result a.network.now.elevs.now a.network.now.headings.now = elim c.match-lines.branch [ in-Grades w ↦ rw (w.in-Grades.is, w.first-is) | in-Curves w ↦ rw (w.in-Curves.is, w.first-is) ] in
+    lines-joined a.train (rises a.network.now.links.now a.network.now.lengths.now a.network.now.elevs.now) a.network.now.headings.now a.base.0 (coeffs a.m a.col.now) a.i a.lines c.link_numbers-l.ensures c.get.ensures e c.lay_stretches.ensures

@@ -9,5 +9,5 @@ use Rattle.path_join.proofs.join.join_records.Given as goal
 
 abbrev pub invariant-loop-i : goal.invariant-loop-i
 invariant-loop-i l =
-    let r = rises l.links l.lengths l.elevs in
-    RecordsLeft (is_curves l.lines) l.train r l.headings (length l.initial.col) (joined_records (is_curves l.lines) l.train r l.headings l.initial.base.0 (coeffs l.m l.initial.col) l.list) (drop l.i-index l.list) l.col l.n l.base.0
+    let r = rises l.network.links.now l.network.lengths.now l.network.elevs.now in
+    RecordsLeft (is_curves l.lines) l.train r l.network.headings.now (length l.initial.col) (joined_records (is_curves l.lines) l.train r l.network.headings.now l.initial.base.0 (coeffs l.m l.initial.col) l.list) (drop l.i-index l.list) l.col l.n l.base.0

@@ -1,7 +1,7 @@
 -- `walk_link`: the answers of the link's limits, grades, curves and power limits, joined.
 use mathlib.Core.Bool.{true, false}
 use mathlib.Core.Path.{◌∙◌}
-use Rattle.link.specs.Table.{table_of}
+use Rattle.link.specs.Table.{table}
 use Rattle.path_join.proofs.Carried.{no-grades, no-curves, walked-link}
 use Rattle.path_join.proofs.path_end.walk_link.Goals as goal
 
@@ -11,23 +11,23 @@ link_finite-laid-requires c = record { i_bound = c.requires.i_bound; i_value = c
 pub returns-in_err-slopes : goal.returns-in_err-slopes
 returns-in_err-slopes c =
     let a = c.args in
-    let t = table_of a.links.now a.lengths.now a.sets.now a.elevs.now a.headings.now a.limits.now a.codes.now a.values.now a.link_powers.now a.link_districts.now in
+    let t = table a.network.now in
     c.from_residual.ensures ∙ no-grades a.train a.own.0 t a.at a.i c.link_numbers-l.ensures c.get.ensures c.walk_stretches.ensures c.in_err-slopes.was
 
 pub returns-in_err-bends : goal.returns-in_err-bends
 returns-in_err-bends c =
     let a = c.args in
-    let t = table_of a.links.now a.lengths.now a.sets.now a.elevs.now a.headings.now a.limits.now a.codes.now a.values.now a.link_powers.now a.link_districts.now in
+    let t = table a.network.now in
     c.from_residual-in_err-bends.ensures ∙ no-curves a.train a.own.0 t a.at a.i c.link_numbers-l.ensures c.get.ensures c.walk_stretches-2.ensures c.in_err-bends.was
 
 pub returns-then-not-laid-further : goal.returns-then-not-laid-further
 returns-then-not-laid-further c =
     let a = c.args in
-    let t = table_of a.links.now a.lengths.now a.sets.now a.elevs.now a.headings.now a.limits.now a.codes.now a.values.now a.link_powers.now a.link_districts.now in
+    let t = table a.network.now in
     walked-link a.train a.own.0 t a.at a.i c.link_numbers-l.ensures c.get.ensures false c.link_finite-laid.ensures c.walk_stretches.ensures c.in_ok-slopes.was c.walk_stretches-2.ensures c.in_ok-bends.was c.powers_finite-drawn.ensures c.is_finite.ensures c.if-not-laid-further.true
 
 pub returns : goal.returns
 returns c =
     let a = c.args in
-    let t = table_of a.links.now a.lengths.now a.sets.now a.elevs.now a.headings.now a.limits.now a.codes.now a.values.now a.link_powers.now a.link_districts.now in
+    let t = table a.network.now in
     walked-link a.train a.own.0 t a.at a.i c.link_numbers-l.ensures c.get.ensures true c.link_finite-laid.ensures c.walk_stretches.ensures c.in_ok-slopes.was c.walk_stretches-2.ensures c.in_ok-bends.was c.powers_finite-drawn.ensures c.is_finite.ensures c.if-not-laid-further.false
