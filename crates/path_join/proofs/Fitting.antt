@@ -1,24 +1,20 @@
 -- Question 9: where the list is too long, and the five kinds of record.
-use Prim.Native.Nat.{ℕ, ◌+◌, ◌*◌, ◌≤◌, ◌<◌, ◌^◌}
+use Prim.Native.Nat.{ℕ, ◌+◌, ◌*◌, ◌<◌}
 use native.Mathlib.Omega.{arith}
-use mathlib.Core.Path.{◌≡◌, ap}
+use mathlib.Core.Path.{◌≡◌}
 use mathlib.Core.Bool.{Bool, false, ◌&&◌}
 use mathlib.Core.List.{List}
-use lib.ListN.{length, get_or}
+use lib.ListN.{length}
 use borrow.Author.Tests.{lt-leb}
-use mir.Syntax.{w32}
-use mir.Val.{Fits}
 use Rattle.link.specs.declared.train_params.TrainParams.{TrainParams}
 use Rattle.link.specs.Table.{LinkTable}
 use Rattle.path.specs.declared.path_tpc.PathTpc.{PathTpc}
 use Rattle.path.specs.Records.{Columns, fits_links, fits_grades, fits_curves, fits_speeds, fits_powers}
-use Rattle.path_speeds.specs.Limits.{SpeedSets, sets_of, count_at}
-use Rattle.path_speeds.proofs.Applying.{count_small}
-use Rattle.path_join.specs.Listed.{grades_in, curves_in, powers_in, sum_of}
+use Rattle.path_speeds.specs.Limits.{sets_of, count_at}
+use Rattle.path_join.specs.Listed.{sum_of}
 use Rattle.path_join.specs.declared.fit.Counts.{Counts}
 use Rattle.path_join.specs.Fit.{records_fit}
 use Rattle.path_join.specs.Walked.{counts_of}
-use Rattle.path_join.proofs.Summed.{sum-small, grades-small, curves-small, powers-small}
 
 module _ (train : TrainParams) (t : LinkTable) (ns : List ℕ) (p : PathTpc) (c : Columns) where
   pub too_long : 1025 < length ns → records_fit train t ns p c ≡ false
