@@ -1,7 +1,7 @@
 // What the planner says in words.
 #![tactic(auto)]
 
-pub mod outcomes; // what a call answered
+pub mod outcomes; // a refusal: question, place, and what the question asks
 pub mod fields; // a field that cannot be read
 pub mod lines; // the call that a line is, and a line that cannot be read
 pub mod places; // lines and links of a file, by their numbers

@@ -1,84 +1,93 @@
 // Lines and links of a file, by their numbers.
+ghost use Rattle.std.specs.Prelude.{◌≡◌, ◌==◌};
+
 use link::train_params::TrainType;
 use route::kinds::{Kind, TableLine, kind_of};
-use route::text::next_line;
-use show::{put, put_count};
+use show::Sink;
+use std::fmt;
 
-// One more, as far as counting goes.
-fn next(n: usize) -> usize {
-    if n < 1000000000 {
-        return n + 1;
-    }
-    n
+// The beginning of what is said about a line of a file.
+pub fn at_line(out: Sink, name: &[u8], line: usize) {
+    write!(out, "plan: ");
+    out.write_all(name);
+    write!(out, ", line {line}");
 }
 
-// Where line n of a text begins, from 1; the text's end where it has fewer.
-pub fn line_start(text: &[u8], n: usize) -> usize {
-    let mut at = 0;
-    let mut line = 1;
-    while at < text.len() {
-        if n <= line {
-            return at;
-        }
-        at = next_line(text, at);
-        line = next(line);
-    }
-    at
+// Whether a byte ends a line.
+pub fn is_line_end(b: &u8) -> bool
+    ensures { result ≡ (b.now == 10) }
+{
+    *b == b'\n'
 }
 
-// The number of the line that has the n-th link, from 1; 0 where there are fewer links.
-pub fn line_of_link(text: &[u8], n: usize) -> usize {
-    let mut at = 0;
-    let mut line = 0;
-    let mut links = 0;
-    while at < text.len() {
-        line = next(line);
-        if kind_of(text, at) == Kind::Table(TableLine::Link) {
-            links = next(links);
+// Line n of a text, from 1; none where it has fewer.
+pub fn line_at(text: &[u8], n: usize) -> Option<&[u8]> {
+    text.split(is_line_end).nth(n.saturating_sub(1))
+}
+
+// The number of the line that has the n-th link, from 1; none where there are fewer links.
+fn line_of_link(text: &[u8], n: usize) -> Option<usize> {
+    let mut links = 0usize;
+    for (i, line) in text.split(is_line_end).enumerate() {
+        if kind_of(line, 0) == Kind::Table(TableLine::Link) {
+            links = links.saturating_add(1);
             if links == n {
-                return line;
+                return Some(i.saturating_add(1));
             }
         }
-        at = next_line(text, at);
     }
-    0
+    None
 }
 
 // A link by its number, and its line where the file has it.
-pub fn link_named(out: i32, text: &[u8], n: u32) {
-    put(out, b"link ");
-    put_count(out, n as usize);
-    let line = line_of_link(text, n as usize);
-    if 0 < line {
-        put(out, b" (line ");
-        put_count(out, line);
-        put(out, b")");
+#[derive(Clone, Copy)]
+pub struct Named {
+    number: u32,
+    line: Option<usize>,
+}
+
+impl Named {
+    pub fn new(text: &[u8], number: u32) -> Named {
+        Named {
+            number,
+            line: line_of_link(text, number as usize),
+        }
+    }
+}
+
+impl fmt::Display for Named {
+    fn fmt<W: fmt::Write>(&self, f: &mut fmt::Formatter<W>) -> fmt::Result {
+        let n = self.number;
+        match self.line {
+            Some(line) => write!(f, "link {n} (line {line})"),
+            None => write!(f, "link {n}"),
+        }
     }
 }
 
 // The word of a train type.
-pub fn type_named(out: i32, t: TrainType) {
+pub fn type_word(t: TrainType) -> &'static str {
     match t {
-        TrainType::None => put(out, b"none"),
-        TrainType::Freight => put(out, b"freight"),
-        TrainType::Passenger => put(out, b"passenger"),
-        TrainType::Intermodal => put(out, b"intermodal"),
-        TrainType::HighSpeedPassenger => put(out, b"high_speed_passenger"),
-        TrainType::TiltTrain => put(out, b"tilt_train"),
-        TrainType::Commuter => put(out, b"commuter"),
+        TrainType::None => "none",
+        TrainType::Freight => "freight",
+        TrainType::Passenger => "passenger",
+        TrainType::Intermodal => "intermodal",
+        TrainType::HighSpeedPassenger => "high_speed_passenger",
+        TrainType::TiltTrain => "tilt_train",
+        TrainType::Commuter => "commuter",
     }
 }
 
 // The trains that a set place is for.
-pub fn place_named(out: i32, place: u32) {
+pub fn trains_of(place: u32) -> &'static str {
     match place {
-        0 => put(out, b"all trains"),
-        1 => type_named(out, TrainType::None),
-        2 => type_named(out, TrainType::Freight),
-        3 => type_named(out, TrainType::Passenger),
-        4 => type_named(out, TrainType::Intermodal),
-        5 => type_named(out, TrainType::HighSpeedPassenger),
-        6 => type_named(out, TrainType::TiltTrain),
-        _ => type_named(out, TrainType::Commuter),
+        0 => "all trains",
+        1 => type_word(TrainType::None),
+        2 => type_word(TrainType::Freight),
+        3 => type_word(TrainType::Passenger),
+        4 => type_word(TrainType::Intermodal),
+        5 => type_word(TrainType::HighSpeedPassenger),
+        6 => type_word(TrainType::TiltTrain),
+        _ => type_word(TrainType::Commuter),
     }
 }

@@ -1,10 +1,10 @@
 // Lines that can be read, and that a surveyor would want a word about: one line to standard error for each sort.
 ghost use Rattle.std.specs.Prelude.{◌<◌};
 
+use crate::places::{at_line, is_line_end};
 use route::fields::{bytes_at, count_at, figure_code, float_at, place_of};
 use route::kinds::{Kind, TableLine, kind_of};
-use route::text::next_line;
-use show::{put, put_count};
+use show::Sink;
 
 // What a warning is about.
 #[derive(Clone, Copy, PartialEq, Eq, Debug)]
@@ -37,8 +37,8 @@ struct Lines {
 // The code of a condition on axles.
 const AXLES: u32 = 5;
 
-// The lines of each sort.
-type Noted = [Lines; 6];
+// The lines of each sort that there are.
+type Noted = [Option<Lines>; 6];
 
 // The place of a sort among all.
 fn place(sort: Sort) -> usize
@@ -66,10 +66,16 @@ struct Near {
 // One line more of a sort.
 fn note(noted: &mut Noted, sort: Sort, line: usize) {
     let i = place(sort);
-    if noted[i].count == 0 {
-        noted[i].first = line;
-    }
-    noted[i].count = noted[i].count.saturating_add(1);
+    noted[i] = Some(match noted[i] {
+        Some(lines) => Lines {
+            first: lines.first,
+            count: lines.count.saturating_add(1),
+        },
+        None => Lines {
+            first: line,
+            count: 1,
+        },
+    });
 }
 
 // Whether a value for axles is cut: it is not a whole number from 0 to 4294967295.
@@ -83,115 +89,95 @@ fn is_cut(v: f64) -> bool {
     true
 }
 
-// A neighbour that the file's links do not have.
-fn is_absent(text: &[u8], at: usize, k: usize, links: usize) -> bool {
-    links < count_at(text, at, k) as usize
+// Whether field k of a line is a link that the file's links do not have.
+fn is_absent(line: &[u8], k: usize, links: usize) -> bool {
+    links < count_at(line, 0, k) as usize
 }
 
-fn link_noted(text: &[u8], at: usize, links: usize, line: usize, noted: &mut Noted) {
-    if is_absent(text, at, 3, links)
-        | is_absent(text, at, 4, links)
-        | is_absent(text, at, 5, links)
-        | is_absent(text, at, 6, links)
-    {
-        note(&mut *noted, Sort::NoNeighbour, line);
-    }
+// Whether a link's neighbour is.
+fn lacks_neighbour(line: &[u8], links: usize) -> bool {
+    is_absent(line, 3, links)
+        || is_absent(line, 4, links)
+        || is_absent(line, 5, links)
+        || is_absent(line, 6, links)
 }
 
-fn limit_noted(text: &[u8], at: usize, near: Near, noted: &mut Noted) {
-    if near.length <= float_at(text, at, 1) {
+fn limit_noted(line: &[u8], near: Near, noted: &mut Noted) {
+    if near.length <= float_at(line, 0, 1) {
         note(&mut *noted, Sort::BehindEnd, near.line);
-    } else if near.length < float_at(text, at, 2) {
+    } else if near.length < float_at(line, 0, 2) {
         note(&mut *noted, Sort::PastEnd, near.line);
     }
-    if float_at(text, at, 3) < 0.0 {
+    if float_at(line, 0, 3) < 0.0 {
         note(&mut *noted, Sort::BelowZero, near.line);
     }
 }
 
 // A set, which stands beside one of the other sort or not.
-fn set_noted(text: &[u8], at: usize, near: Near, noted: &mut Noted) -> Near {
-    let mut r = near;
+fn set_noted(line: &[u8], mut near: Near, noted: &mut Noted) -> Near {
     let had = near.for_all & near.for_type;
-    if place_of(bytes_at(text, at, 1)) == Some(0) {
-        r.for_all = true;
+    if place_of(bytes_at(line, 0, 1)) == Some(0) {
+        near.for_all = true;
     } else {
-        r.for_type = true;
+        near.for_type = true;
     }
-    if !had & (r.for_all & r.for_type) {
+    if !had & (near.for_all & near.for_type) {
         note(&mut *noted, Sort::BothSets, near.line);
     }
-    r
+    near
 }
 
 // One line more.
-fn line_noted(text: &[u8], at: usize, links: usize, near: Near, noted: &mut Noted) -> Near {
-    let mut r = near;
-    r.line = near.line.saturating_add(1);
-    match kind_of(text, at) {
+fn line_noted(line: &[u8], links: usize, mut near: Near, noted: &mut Noted) -> Near {
+    near.line = near.line.saturating_add(1);
+    match kind_of(line, 0) {
         Kind::Table(TableLine::Link) => {
-            link_noted(text, at, links, r.line, &mut *noted);
-            r.length = float_at(text, at, 2);
-            r.for_all = false;
-            r.for_type = false;
+            if lacks_neighbour(line, links) {
+                note(&mut *noted, Sort::NoNeighbour, near.line);
+            }
+            near.length = float_at(line, 0, 2);
+            near.for_all = false;
+            near.for_type = false;
         }
-        Kind::Table(TableLine::Limit) => limit_noted(text, at, r, &mut *noted),
-        Kind::Table(TableLine::Set) => return set_noted(text, at, r, &mut *noted),
+        Kind::Table(TableLine::Limit) => limit_noted(line, near, &mut *noted),
+        Kind::Table(TableLine::Set) => return set_noted(line, near, &mut *noted),
         Kind::Table(TableLine::When) => {
-            let of_axles = figure_code(bytes_at(text, at, 1)) == Some(AXLES);
-            if of_axles & is_cut(float_at(text, at, 3)) {
-                note(&mut *noted, Sort::AxlesCut, r.line);
+            let of_axles = figure_code(bytes_at(line, 0, 1)) == Some(AXLES);
+            if of_axles & is_cut(float_at(line, 0, 3)) {
+                note(&mut *noted, Sort::AxlesCut, near.line);
             }
         }
         _ => {}
     }
-    r
+    near
 }
 
-fn words(err: i32, sort: Sort) {
+fn words(sort: Sort) -> &'static str {
     match sort {
-        Sort::PastEnd => put(err, b"a limit reaches past the end of its link"),
-        Sort::BehindEnd => put(err, b"a limit lies behind the end of its link"),
-        Sort::BothSets => put(
-            err,
-            b"a link has a set for all trains beside one for a type: the one for all serves every train",
-        ),
-        Sort::NoNeighbour => put(err, b"a neighbour is a link that the file does not have"),
-        Sort::BelowZero => put(err, b"a limit's speed is below 0"),
-        Sort::AxlesCut => put(
-            err,
-            b"a value for axles is cut to a whole number from 0 to 4294967295",
-        ),
+        Sort::PastEnd => "a limit reaches past the end of its link",
+        Sort::BehindEnd => "a limit lies behind the end of its link",
+        Sort::BothSets => {
+            "a link has a set for all trains beside one for a type: the one for all serves every train"
+        }
+        Sort::NoNeighbour => "a neighbour is a link that the file does not have",
+        Sort::BelowZero => "a limit's speed is below 0",
+        Sort::AxlesCut => "a value for axles is cut to a whole number from 0 to 4294967295",
     }
 }
 
 // The beginning of a warning about a line.
-pub fn warning(err: i32, name: &[u8], line: usize) {
-    put(err, b"plan: ");
-    put(err, name);
-    put(err, b", line ");
-    put_count(err, line);
-    put(err, b": warning: ");
+pub fn warning(err: Sink, name: &[u8], line: usize) {
+    at_line(err, name, line);
+    write!(err, ": warning: ");
 }
 
-fn told(err: i32, name: &[u8], sort: Sort, lines: Lines) {
-    if lines.count == 0 {
-        return;
-    }
+fn told(err: Sink, name: &[u8], sort: Sort, lines: Lines) {
     warning(err, name, lines.first);
-    words(err, sort);
+    write!(err, "{}", words(sort));
     if 1 < lines.count {
-        put(err, b"; lines with this: ");
-        put_count(err, lines.count);
+        write!(err, "; lines with this: {}", lines.count);
     }
-    put(err, b"\n");
-}
-
-// All sorts in turn.
-fn all_told(err: i32, name: &[u8], noted: &Noted) {
-    for sort in SORTS {
-        told(err, name, sort, noted[place(sort)]);
-    }
+    write!(err, "\n");
 }
 
 // All lines of a text.
@@ -202,17 +188,18 @@ fn lines_noted(text: &[u8], links: usize, noted: &mut Noted) {
         for_all: false,
         for_type: false,
     };
-    let mut at = 0;
-    while at < text.len() {
-        near = line_noted(text, at, links, near, &mut *noted);
-        at = next_line(text, at);
+    for line in text.split(is_line_end) {
+        near = line_noted(line, links, near, &mut *noted);
     }
 }
 
-// What the lines of a file that has so many links give rise to.
-pub fn warn(err: i32, name: &[u8], text: &[u8], links: usize) {
-    let none = Lines { first: 0, count: 0 };
-    let mut noted = [none; 6];
+// What the lines of a file that has so many links give rise to: all sorts in turn.
+pub fn warn(err: Sink, name: &[u8], text: &[u8], links: usize) {
+    let mut noted = [None; 6];
     lines_noted(text, links, &mut noted);
-    all_told(err, name, &noted);
+    for sort in SORTS {
+        if let Some(lines) = noted[place(sort)] {
+            told(err, name, sort, lines);
+        }
+    }
 }

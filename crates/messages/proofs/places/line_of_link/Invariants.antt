@@ -1,9 +1,0 @@
--- `line_of_link`: one line a turn.
-use Rattle.std.proofs.Common.{◌-◌, length}
-use Rattle.messages.proofs.places.line_of_link.Given as goal
-
-abbrev pub invariant-loop-at : goal.invariant-loop-at
-invariant-loop-at l = Unit {0}
-
-abbrev pub decreases-loop-at : goal.decreases-loop-at
-decreases-loop-at l = length l.text - l.at
