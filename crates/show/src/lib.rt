@@ -39,6 +39,13 @@ impl Sink {
     }
 }
 
+// Where the text of a run goes, and where its errors go.
+#[derive(Clone, Copy)]
+pub struct To {
+    pub out: Sink,
+    pub err: Sink,
+}
+
 // A number to three places behind the point, which are left out where they are 0.
 #[derive(Clone, Copy)]
 pub struct Rounded(pub f64);
@@ -97,13 +104,6 @@ pub const STDIN_FILENO: i32 = 0;
 pub const STDOUT_FILENO: i32 = 1;
 
 pub const STDERR_FILENO: i32 = 2;
-
-// Where the text of a run goes, and where its errors go: descriptors, below 0 for nowhere.
-#[derive(Clone, Copy)]
-pub struct To {
-    pub out: i32,
-    pub err: i32,
-}
 
 // A text to a descriptor; nothing where it is below 0.
 pub fn put(fd: i32, text: &[u8]) {
