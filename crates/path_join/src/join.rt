@@ -113,13 +113,7 @@ pub fn join_points(
         list.now) }
 {
     for (k, i) in list.iter().enumerate() {
-        join_point(
-            &mut *offsets,
-            &mut *numbers,
-            n + k,
-            *i as usize,
-            network,
-        );
+        join_point(&mut *offsets, &mut *numbers, n + k, *i as usize, network);
     }
 }
 
@@ -146,9 +140,7 @@ pub fn join_records(
     let mut base = begin;
     for i in list {
         let link = *i as usize;
-        n = join_record(
-            &mut *col, n, lines, base, link, network, train,
-        );
+        n = join_record(&mut *col, n, lines, base, link, network, train);
         base = grade_end(network, base, link);
     }
     n
@@ -175,7 +167,11 @@ fn join_record(
     let l = link_numbers(network.links, i);
     let length = Length(column::get(network.lengths, i));
     let (pool, first, count) = match lines {
-        Lines::Grades => (network.elevs, l.elevs_first as usize, l.elevs_count as usize),
+        Lines::Grades => (
+            network.elevs,
+            l.elevs_first as usize,
+            l.elevs_count as usize,
+        ),
         Lines::Curves => (
             network.headings,
             l.headings_first as usize,

@@ -96,13 +96,7 @@ pub fn sums_question(
 {
     let mut here = at;
     for (k, i) in list.iter().enumerate() {
-        let Some(after) = walk_link(
-            here,
-            *i as usize,
-            network,
-            own,
-            train,
-        ) else {
+        let Some(after) = walk_link(here, *i as usize, network, own, train) else {
             return Some(k);
         };
         here = after;
