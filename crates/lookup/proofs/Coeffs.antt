@@ -15,7 +15,7 @@ use Rattle.ieee.specs.Number.{+0, +∞, ◌⊖◌, ◌⊗◌, all_finite}
 use Rattle.ieee.proofs.Finite.{add-finite-r, mul-finite-r}
 use Rattle.column.specs.Records.{record_at, flat}
 use Rattle.column.proofs.Filling.{get_d-within}
-use Rattle.column.proofs.Bridge.{Lawful, record-at}
+use Rattle.column.proofs.Bridge.{Lawful, length-records, record-at}
 use Rattle.lookup.specs.declared.path_res_coeff.PathResCoeff.{PathResCoeff}
 use Rattle.lookup.specs.Coeff.{res_coeff_record, triple, coeffs, no_coeff, coeff_at, stands_at, coefficient_of, net_of, offset_at, res_val, closes_well, closing_finite, coeffs_finite}
 
@@ -27,6 +27,13 @@ triple-lawful = record { length-pack = λ g. refl; unpack-pack = λ g l. refl; p
     back (a ∷ []) h = absurd (omega arith)
     back (a ∷ b ∷ []) h = absurd (omega arith)
     back (a ∷ b ∷ c ∷ l) h = refl
+
+pub length-coeffs : (n : ℕ) (c : List Float) → length (coeffs n c) ≡ n
+length-coeffs n c = length-records triple triple-lawful n c
+
+-- a list that is the first n records of a column has n records
+pub count-of : (n : ℕ) (c : List Float) (rs : List PathResCoeff) → coeffs n c ≡ rs → n ≡ length rs
+count-of n c rs e = sym (length-coeffs n c) ∙ ap length e
 
 -- 1.0 / 0.0
 pub infinity : div binary64 (of_bits binary64 4607182418800017408) (of_bits binary64 0) ≡ +∞

@@ -2,7 +2,8 @@
 use Rattle.std.specs.Prelude.{ℕ, ◌*◌, Bool, ◌&&◌, cond, List, leb, length, Float, true, Result, Ok, Err}
 use Rattle.std.specs.Float.Ieee.Scale.{finite}
 use Rattle.answer.specs.declared.Refusal.{Refusal}
-use Rattle.answer.specs.Answers.{number}
+use Rattle.answer.specs.declared.Question.TheVariants.{Finite, Sound}
+use Rattle.answer.specs.Answers.{number, refused_at}
 use Rattle.lookup.specs.declared.lin_search_hint.Dir.{Dir}
 use Rattle.lookup.specs.declared.path_res_coeff.PathResCoeff.{PathResCoeff}
 use Rattle.lookup.specs.Coeff.{coeffs, coeffs_finite}
@@ -32,6 +33,11 @@ find_in dir x hint rs = cond (in_range dir x rs) (cond (hint_allowed dir hint rs
 -- question 2 of a list searched alone: it is not empty, and the column holds its records
 unfoldable pub list_sound : ℕ → List Float → Bool
 list_sound n c = leb 1 n && leb (3 * n) (length c)
+
+-- questions 1 and 2 of n records of a column, and the list that they are; `also` is question 1 of the call's other numbers
+unfoldable pub judged : Bool → ℕ → List Float → Result (List PathResCoeff) Refusal
+unfolding list_sound
+judged also n c = cond (also && coeffs_finite true n c) (cond (list_sound n c) (Ok (coeffs n c)) (refused_at Sound 0)) (refused_at Finite 0)
 
 unfoldable pub calc_idx : Dir → Float → ℕ → ℕ → List Float → Indexed
 unfolding find_in list_sound

@@ -3,5 +3,6 @@
 
 pub mod lin_search_hint; // lin_search_hint.rs: directions
 pub mod path_res_coeff; // path_res_coeff.rs: the record
-pub mod search; // the search itself, for lists that are known to be sound
+pub mod coeff_list; // a list that is known to be sound, to read
+pub mod search; // the search in it
 pub mod calc_idx; // path_res_coeff.rs: the public call

@@ -1,7 +1,7 @@
 // A grade or curve record: offset, coefficient, and the net value at the offset.
-ghost use Rattle.std.specs.Prelude.{◌≡◌, ◌*◌, ◌≤◌, ◌<◌, length};
+ghost use Rattle.std.specs.Prelude.{◌≡◌};
 ghost use Rattle.column.specs.Records.{record_at, put_record};
-ghost use Rattle.lookup.specs.Coeff.{res_coeff_record, triple, coeffs, coeff_at, offset_at, res_val, closes_well, coeffs_finite};
+ghost use Rattle.lookup.specs.Coeff.{res_coeff_record, triple, res_val, closes_well, coeffs_finite};
 
 use column::Three;
 use si::{Length, Ratio};
@@ -42,30 +42,11 @@ pub fn coeff_at(col: &[f64], i: usize) -> PathResCoeff
     PathResCoeff::from(column::record_at::<Three>(col, i))
 }
 
-// Record i of n that the column holds.
-pub fn coeff_in(col: &[f64], n: usize, i: usize) -> PathResCoeff
-    requires i_lt_n { i < n }
-    requires n_in_bounds { 3 * n ≤ length col.now }
-    ensures { result ≡ coeff_at (coeffs n col.now) i }
-{
-    let k = 3 * i;
-    PathResCoeff::from(Three(col[k], col[k + 1], col[k + 2]))
-}
-
 // Stores record i.
 pub fn put_coeff(col: &mut [f64], i: usize, g: PathResCoeff)
     ensures { col.new ≡ put_record triple col.old i g }
 {
     column::put_record(&mut *col, i, Three(g.offset.0, g.res_coeff.0, g.res_net.0));
-}
-
-// The offset of record i of n.
-pub fn offset_at(col: &[f64], n: usize, i: usize) -> Length
-    requires i_lt_n { i < n }
-    requires n_in_bounds { 3 * n ≤ length col.now }
-    ensures { result.0 ≡ offset_at (coeffs n col.now) i }
-{
-    Length(col[3 * i])
 }
 
 // Whether o is finite, or +infinity where the list may close so.
@@ -75,7 +56,8 @@ fn closes_well(o: f64, closes: bool) -> bool
     ieee::is_finite(o) || (closes && o == f64::INFINITY)
 }
 
-// Question 1 of n records: every number is finite, the last offset excepted where the list may close at +infinity.
+// Question 1 of n records: every number is finite, the last offset excepted where the list may close at +infinity. It asks any count of any
+// column, so it takes both and no list; `closes` is a path's own `is_finished`, so it stays a bool.
 pub fn coeffs_finite(col: &[f64], n: usize, closes: bool) -> bool
     ensures { result ≡ coeffs_finite closes n col.now }
 {

@@ -10,7 +10,7 @@ ghost use Rattle.path.specs.Sound as spec;
 use crate::columns::PathColumns;
 use crate::link_point::{link_point_at, link_point_within};
 use crate::path_tpc::PathTpc;
-use lookup::path_res_coeff::offset_at;
+use lookup::coeff_list::CoeffList;
 use si::Length;
 
 fn one_of_each(p: PathTpc) -> bool
@@ -155,19 +155,25 @@ fn sorted_from(speeds: &[f64], n: usize, o: Length) -> bool
 
 // Whether the link points' counts add up, and each link point's first grade and curve stands at its offset. A point whose first record
 // lies past the last one counts too many.
-fn counts_lead(p: PathTpc, offsets: &[f64], numbers: &[u32], grades: &[f64], curves: &[f64]) -> bool
+fn counts_lead(
+    p: PathTpc,
+    offsets: &[f64],
+    numbers: &[u32],
+    grades: &CoeffList,
+    curves: &CoeffList,
+) -> bool
     requires link_count_bound { p.link_count ≤ 1025 }
     requires link_count_in_bounds { p.link_count ≤ length offsets.now }
     requires link_count_in_bounds_2 { 4 * p.link_count ≤ length numbers.now }
-    requires grade_count_in_bounds { 3 * p.grade_count ≤ length grades.now }
-    requires curve_count_in_bounds { 3 * p.curve_count ≤ length curves.now }
+    requires grade_count_in_list { p.grade_count ≤ length grades.now }
+    requires curve_count_in_list { p.curve_count ≤ length curves.now }
     ensures { result ≡
         (spec.add_up p
         (spec.totals (link_points p.link_count offsets.now numbers.now)) &&
         (spec.first_at_offset (spec.count_of false) 0
-        (link_points p.link_count offsets.now numbers.now) (coeffs p.grade_count grades.now) &&
+        (link_points p.link_count offsets.now numbers.now) grades.now &&
         spec.first_at_offset (spec.count_of true) 0
-        (link_points p.link_count offsets.now numbers.now) (coeffs p.curve_count curves.now))) }
+        (link_points p.link_count offsets.now numbers.now) curves.now)) }
 {
     let n = p.link_count;
     let grade_count = p.grade_count;
@@ -184,8 +190,8 @@ fn counts_lead(p: PathTpc, offsets: &[f64], numbers: &[u32], grades: &[f64], cur
             return false;
         }
         let q = link_point_within(offsets, numbers, i);
-        let slope = offset_at(grades, grade_count, g);
-        let bend = offset_at(curves, curve_count, k);
+        let slope = grades.offset_at(g);
+        let bend = curves.offset_at(k);
         ok = ok & ((slope.0 == q.offset.0) & (bend.0 == q.offset.0));
         g += q.grade_count;
         k += q.curve_count;
@@ -229,7 +235,9 @@ fn sound_path(p: PathTpc, cols: &PathColumns) -> bool
         p.speed_count,
         link_point_at(cols.offsets, cols.numbers, 0).offset,
     );
-    let lead = counts_lead(p, cols.offsets, cols.numbers, cols.grades, cols.curves);
+    let grades = CoeffList::new(cols.grades, p.grade_count);
+    let curves = CoeffList::new(cols.curves, p.curve_count);
+    let lead = counts_lead(p, cols.offsets, cols.numbers, &grades, &curves);
     lead & ((!p.is_finished | closed) & (links & sorted))
 }
 

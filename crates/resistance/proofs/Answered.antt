@@ -22,14 +22,6 @@ module _ {A : Type 0} (give : Answer → Bool → A) {r a : Answer} (e : r ≡ a
 pub asked-no : {n : ℕ} {r : Answer} → r ≡ ask (suc n) false → r.number ≡ 0 → ⊥
 asked-no e z = omega (arith, ap (λ (x : Answer). x.number) e)
 
--- one question
-module _ {A : Type 0} (give : Answer → Bool → A) (n : ℕ) {b : Bool} {r : Answer} where
-  pub one-no : b ≡ false → r ≡ ask (suc n) false → give r false ≡ give (ask (suc n) b) (is_done (ask (suc n) b))
-  one-no t e = settled-no give (e ∙ ap (ask (suc n)) (sym t)) (asked-no e)
-
-  pub one-yes : b ≡ true → r ≡ ask n true → give r true ≡ give (ask n b) (is_done (ask n b))
-  one-yes t e = settled-yes give (e ∙ ap (ask n) (sym t)) (ap (λ (x : Answer). x.number) e)
-
 -- the question n + 1 after the first, to which r is the code's answer
 module _ {first r : Answer} (e : r ≡ first) (z : r.number ≡ 0) (n : ℕ) {b : Bool} where
   pub then-no : (rest : List Answer) → b ≡ false → ask (suc n) false ≡ in_turn (first ∷ ask (suc n) b ∷ rest)

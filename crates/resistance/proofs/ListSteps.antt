@@ -1,5 +1,5 @@
 -- A list searched alone: its questions in turn, where a search that is done ends, and the values of one record.
-use Prim.Native.Nat.{ℕ, ◌*◌, ◌≤◌, ◌<◌}
+use Prim.Native.Nat.{ℕ, ◌≤◌, ◌<◌}
 use mathlib.Core.Path.{◌≡◌, refl, sym, ap, ap₂, ◌∙◌}
 use mathlib.Core.Bool.{Bool, true, false, ◌&&◌, and-true, cond}
 use mathlib.Core.List.{List, [], ◌∷◌}
@@ -12,46 +12,27 @@ use Rattle.ieee.specs.Number.{+0, ◌⊖◌, ◌⊗◌, all_finite}
 use Rattle.lookup.specs.declared.lin_search_hint.Dir.{Dir}
 use Rattle.lookup.specs.declared.path_res_coeff.PathResCoeff.{PathResCoeff}
 use Rattle.lookup.specs.Coeff.{coeffs, coeff_at, stands_at, coefficient_of, res_val, coeffs_finite}
-use Rattle.lookup.specs.CalcIdx.{Indexed, find_in, list_sound}
-use Rattle.lookup.proofs.Coeffs.{value-way}
-use Rattle.lookup.proofs.SearchSteps.{sound-known}
+use Rattle.lookup.specs.CalcIdx.{Indexed, find_in, list_sound, judged}
+use Rattle.lookup.proofs.Coeffs.{length-coeffs, value-way}
 use Rattle.lookup.proofs.Place.{found_below}
 use Rattle.link.proofs.Known.{and_both}
 use Rattle.answer.specs.declared.Answer.{Answer}
-use Rattle.answer.specs.Answers.{done}
+use Rattle.answer.specs.declared.Question.TheVariants.{Finite, Sound}
+use Rattle.answer.specs.declared.Refusal.{Refusal}
+use Rattle.answer.specs.Answers.{done, answer, refused_at}
+use Rattle.std.proofs.Common.{Result, Ok}
 use Rattle.path.specs.Answers.{ask, in_turn}
-use Rattle.path.proofs.InTurn.{turn-no, first-no, first-yes, first_done, last_one, turn-none}
+use Rattle.path.proofs.InTurn.{turn-no, first_done, last_one, turn-none}
 use Rattle.train.specs.declared.train_state.TrainState.{TrainState}
 use Rattle.train.specs.Position.{state_finite}
 use Rattle.resistance.specs.declared.listed.Searched.{Searched}
 use Rattle.resistance.specs.declared.listed.CoeffAnswer.{CoeffAnswer}
 use Rattle.resistance.specs.declared.listed.NetAnswer.{NetAnswer}
 use Rattle.resistance.specs.Listed.{list_answer, searched_of, search, value_steps, res_coeff_of, res_net_of}
-use Rattle.resistance.proofs.Answered.{settled-no, settled-yes, asked-no, then-no, then-yes, then-done}
+use Rattle.resistance.proofs.Answered.{settled-no, settled-yes, asked-no, then-no, then-yes}
 
 -- ---- questions 1 and 2
 module _ (also : Bool) (n : ℕ) (c : List Float) where
-  pub list-else : also ≡ false → ask 1 false ≡ list_answer also n c
-  unfolding list_answer
-  list-else e = sym (first-no 0 (ask 2 (list_sound n c) ∷ []) (ap (λ (b : Bool). b && coeffs_finite true n c) e))
-
-  module _ (e : also ≡ true) where
-    pub list-numbers : coeffs_finite true n c ≡ false → ask 1 false ≡ list_answer also n c
-    unfolding list_answer
-    list-numbers f = sym (first-no 0 (ask 2 (list_sound n c) ∷ []) (ap₂ ◌&&◌ e f))
-
-    module _ (f : coeffs_finite true n c ≡ true) where
-      pub list-sound : ask 2 (list_sound n c) ≡ list_answer also n c
-      unfolding list_answer
-      list-sound = sym (first-yes 0 (ask 2 (list_sound n c) ∷ []) (ap₂ ◌&&◌ e f) ∙ last_one 1 (list_sound n c))
-
-  -- what is known of a list that passes
-  pub list_done : {r : Answer} → r ≡ list_answer also n c → r.number ≡ 0 → (0 < n) × (3 * n ≤ length c)
-  unfolding list_answer
-  list_done e h =
-      let one = first_done 0 (ask 2 (list_sound n c) ∷ []) (also && coeffs_finite true n c) (ap (λ (a : Answer). a.number) (sym e) ∙ h) in
-      sound-known n c (first_done 1 [] (list_sound n c) one.1).0
-
   pub list-answered : {r : Answer} → r ≡ list_answer also n c → r.number ≡ 0 → r ≡ done
   unfolding list_answer
   list-answered e h = e ∙ turn-none (ask 1 (also && coeffs_finite true n c) ∷ ask 2 (list_sound n c) ∷ []) (ap (λ (a : Answer). a.number) (sym e) ∙ h)
@@ -59,6 +40,33 @@ module _ (also : Bool) (n : ℕ) (c : List Float) where
   pub list-also : (list_answer also n c).number ≡ 0 → also ≡ true
   unfolding list_answer
   list-also h = (and_both also (coeffs_finite true n c) (first_done 0 (ask 2 (list_sound n c) ∷ []) (also && coeffs_finite true n c) h).0).0
+
+-- the list that answers them; r is the code's result
+module _ (also : Bool) (n : ℕ) (c : List Float) where
+  judged-answer : answer (judged also n c) ≡ list_answer also n c
+  unfolding judged list_answer in_turn
+  judged-answer = go (also && coeffs_finite true n c) (list_sound n c)
+    where
+      go : (a b : Bool) → answer (cond a (cond b (Ok (coeffs n c)) (refused_at Sound 0)) (refused_at Finite 0)) ≡ in_turn (ask 1 a ∷ ask 2 b ∷ [])
+      go true true = refl
+      go true false = refl
+      go false b = refl
+
+  module _ {r : Result (List PathResCoeff) Refusal} (e : r ≡ judged also n c) where
+    pub list-told : answer r ≡ list_answer also n c
+    list-told = ap answer e ∙ judged-answer
+
+    pub list-is : {rs : List PathResCoeff} → r ≡ Ok rs → rs ≡ coeffs n c
+    unfolding judged
+    list-is f = go (also && coeffs_finite true n c) (list_sound n c) (sym f ∙ e)
+      where
+        go : {rs : List PathResCoeff} (a b : Bool) → Ok rs ≡ cond a (cond b (Ok (coeffs n c)) (refused_at Sound 0)) (refused_at Finite 0) → rs ≡ coeffs n c
+        go true true h = cc
+        go true false h = cc
+        go false b h = cc
+
+    pub list-long : {rs : List PathResCoeff} → r ≡ Ok rs → length rs ≡ n
+    list-long f = ap length (list-is f) ∙ length-coeffs n c
 
 -- where the other numbers are a position's
 pub list-of-state : (s : TrainState) (n : ℕ) (c : List Float) {ok : Bool} {r : Answer} → ok ≡ state_finite s → r ≡ list_answer ok n c → r ≡ list_answer (state_finite s) n c
@@ -110,17 +118,6 @@ module _ (i n : ℕ) (c : List Float) {first : Answer} (e : first ≡ list_answe
   pub coeff-refused : (first.number ≡ 0 → ⊥) → record { answer = first; res_coeff = record { 0 = +0 } } ≡ res_coeff_of i n c
   unfolding res_coeff_of
   coeff-refused h = settled-no coefficient (sym (turn-no (list_answer true n c) asked-11 e h)) h
-
-  module _ (z : first.number ≡ 0) where
-    pub coeff-past : {r : Answer} → r ≡ ask 11 false → n ≤ i → record { answer = r; res_coeff = record { 0 = +0 } } ≡ res_coeff_of i n c
-    unfolding res_coeff_of
-    coeff-past f h = settled-no coefficient (f ∙ then-no e z 10 [] (le-ltb i n h)) (asked-no f)
-
-    pub coeff-found : {g : PathResCoeff} → i < n → g ≡ coeff_at (coeffs n c) i → record { answer = first; res_coeff = record { 0 = coefficient_of g } } ≡ res_coeff_of i n c
-    unfolding res_coeff_of
-    coeff-found h f =
-        ap₂ (λ (a : Answer) (k : PathResCoeff). record { answer = a; res_coeff = record { 0 = coefficient_of k } }) (list-answered true n c e z) f
-        ∙ settled-yes coefficient (then-done e z 10 (lt-ltb i n h)) refl
 
 module _ (i : ℕ) (x : Float) (s : TrainState) (n : ℕ) (c : List Float) {ok : Bool} (o : ok ≡ state_finite s) {first : Answer} (l : first ≡ list_answer ok n c) where
   e : first ≡ list_answer (state_finite s) n c

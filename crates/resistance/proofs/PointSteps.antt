@@ -1,19 +1,16 @@
 -- `Point`: the search of the middle, and the resistance there.
-use Prim.Native.Nat.{ℕ, ◌-◌, ◌≤◌, ◌<◌}
+use Prim.Native.Nat.{ℕ, ◌<◌}
 use mathlib.Core.Path.{◌≡◌, sym, ap, ◌∙◌, subst}
 use mathlib.Core.Bool.{Bool, true, false, cond}
 use mathlib.Core.List.{List}
 use native.Mathlib.Omega.{arith}
-use borrow.Author.Tests.{le-leb, lt-leb}
 use lib.ListN.{length}
 use lib.Ieee.{Float}
 use lib.Ieee.Scale.{finite}
 use Rattle.ieee.specs.Number.{◌⊗◌}
-use Rattle.column.proofs.Bridge.{length-records}
 use Rattle.lookup.specs.declared.lin_search_hint.Dir.{Dir}
 use Rattle.lookup.specs.declared.path_res_coeff.PathResCoeff.{PathResCoeff}
-use Rattle.lookup.specs.Coeff.{triple, coeffs, coeff_at, coefficient_of}
-use Rattle.lookup.proofs.Coeffs.{triple-lawful}
+use Rattle.lookup.specs.Coeff.{coeffs, coeff_at, coefficient_of}
 use Rattle.answer.specs.declared.Answer.{Answer}
 use Rattle.answer.specs.Answers.{done}
 use Rattle.path.specs.Answers.{ask}
@@ -24,9 +21,9 @@ use Rattle.resistance.specs.declared.point.Point.{Point}
 use Rattle.resistance.specs.declared.point.PointAnswer.{PointAnswer}
 use Rattle.resistance.specs.declared.point.PointRes.{PointRes}
 use Rattle.resistance.specs.Listed.{list_answer, search, not_searched}
-use Rattle.resistance.specs.Point.{half, point_of, middle, search_middle, res_at, new_known, refused_res, calc_res_known, new_of, calc_res_of, fix_cache}
+use Rattle.resistance.specs.Point.{half, point_of, middle, search_middle, res_at, new_known, refused_res, calc_res_known, new_of, calc_res_of}
 use Rattle.ieee.proofs.Finite.{sub-finite-r}
-use Rattle.resistance.proofs.Answered.{one-no, one-yes, behind-no, behind-yes, both_first, both-second, both-done}
+use Rattle.resistance.proofs.Answered.{behind-no, behind-yes, both_first, both-second, both-done}
 use Rattle.resistance.proofs.ListSteps.{list-of-state, Within, search-within, implied}
 
 -- ---- the search of the middle
@@ -53,42 +50,42 @@ module _ (dir : Dir) (hint : ℕ) (s : TrainState) (rs : List PathResCoeff) wher
       go false z = absurd (omega arith)
 
 -- ---- the resistance; m is the code's answer of that search
-module _ (dir : Dir) (p : Point) (s : TrainState) (n : ℕ) (c : List Float) {m : Searched} (e : m ≡ search_middle dir p.idx s (coeffs n c)) where
+module _ (dir : Dir) (p : Point) (s : TrainState) (rs : List PathResCoeff) {m : Searched} (e : m ≡ search_middle dir p.idx s rs) where
   abbrev there : ℕ
-  there = (search_middle dir p.idx s (coeffs n c)).idx
+  there = (search_middle dir p.idx s rs).idx
 
   abbrev refuse : Answer → PointRes
   refuse a = refused_res a p
 
   abbrev good : PointRes
-  good = record { answer = done; point = point_of there; res = record { 0 = res_at there s (coeffs n c) } }
+  good = record { answer = done; point = point_of there; res = record { 0 = res_at there s rs } }
 
   abbrev question : Bool
-  question = finite (res_at there s (coeffs n c))
+  question = finite (res_at there s rs)
 
-  answer-is : m.answer ≡ (search_middle dir p.idx s (coeffs n c)).answer
+  answer-is : m.answer ≡ (search_middle dir p.idx s rs).answer
   answer-is = ap (λ (r : Searched). r.answer) e
 
-  pub res-refused : (m.answer.number ≡ 0 → ⊥) → refused_res m.answer p ≡ calc_res_known dir p s (coeffs n c)
+  pub res-refused : (m.answer.number ≡ 0 → ⊥) → refused_res m.answer p ≡ calc_res_known dir p s rs
   unfolding calc_res_known
   res-refused h = both_first refuse good answer-is 7 question h
 
-  within : m.answer.number ≡ 0 → (m.answer ≡ done) × (m.idx < length (coeffs n c))
-  within = subst (Within (coeffs n c)) (sym e) (middle-within dir p.idx s (coeffs n c))
+  within : m.answer.number ≡ 0 → (m.answer ≡ done) × (m.idx < length rs)
+  within = subst (Within rs) (sym e) (middle-within dir p.idx s rs)
 
-  pub res-below : m.answer.number ≡ 0 → m.idx < n
-  res-below z = omega (arith, (within z).1, length-records triple triple-lawful n c)
+  pub res-below : m.answer.number ≡ 0 → m.idx < length rs
+  res-below z = (within z).1
 
   -- g is the record that the code reads
-  module _ (z : m.answer.number ≡ 0) {g : PathResCoeff} (f : g ≡ coeff_at (coeffs n c) m.idx) where
-    force : coefficient_of g ⊗ weight_of s ≡ res_at there s (coeffs n c)
-    force = ap (λ (k : PathResCoeff). coefficient_of k ⊗ weight_of s) (f ∙ ap (λ (r : Searched). coeff_at (coeffs n c) r.idx) e)
+  module _ (z : m.answer.number ≡ 0) {g : PathResCoeff} (f : g ≡ coeff_at rs m.idx) where
+    force : coefficient_of g ⊗ weight_of s ≡ res_at there s rs
+    force = ap (λ (k : PathResCoeff). coefficient_of k ⊗ weight_of s) (f ∙ ap (λ (r : Searched). coeff_at rs r.idx) e)
 
-    pub res-8 : {r : Answer} → finite (coefficient_of g ⊗ weight_of s) ≡ false → r ≡ ask 8 false → refused_res r p ≡ calc_res_known dir p s (coeffs n c)
+    pub res-8 : {r : Answer} → finite (coefficient_of g ⊗ weight_of s) ≡ false → r ≡ ask 8 false → refused_res r p ≡ calc_res_known dir p s rs
     unfolding calc_res_known
     res-8 t k = both-second refuse good answer-is 7 question z (ap finite (sym force) ∙ t) k
 
-    pub res-found : finite (coefficient_of g ⊗ weight_of s) ≡ true → record { answer = m.answer; point = point_of m.idx; res = record { 0 = coefficient_of g ⊗ weight_of s } } ≡ calc_res_known dir p s (coeffs n c)
+    pub res-found : finite (coefficient_of g ⊗ weight_of s) ≡ true → record { answer = m.answer; point = point_of m.idx; res = record { 0 = coefficient_of g ⊗ weight_of s } } ≡ calc_res_known dir p s rs
     unfolding calc_res_known
     res-found t = given ∙ both-done refuse good answer-is 7 question z (ap finite (sym force) ∙ t)
       where
@@ -116,16 +113,3 @@ module _ (s : TrainState) (n : ℕ) (c : List Float) {ok : Bool} (o : ok ≡ sta
     pub calc-passed : {r : PointRes} → first.number ≡ 0 → r ≡ calc_res_known dir p s (coeffs n c) → r ≡ calc_res_of dir p s n c
     unfolding calc_res_of
     calc-passed z e = behind-yes (λ (a : Answer). refused_res a p) (list-of-state s n c o l) z e
-
--- ---- records dropped at the front
-module _ (p : Point) (sub : ℕ) where
-  abbrev fixed : Answer → Bool → PointAnswer
-  fixed a b = record { answer = a; point = cond b (point_of (p.idx - sub)) p }
-
-  pub fix-refused : {r : Answer} → p.idx < sub → r ≡ ask 11 false → record { answer = r; point = p } ≡ fix_cache p sub
-  unfolding fix_cache
-  fix-refused h e = one-no fixed 10 (lt-leb sub p.idx h) e
-
-  pub fix-done : {r : Answer} → sub ≤ p.idx → r ≡ ask 11 true → record { answer = r; point = point_of (p.idx - sub) } ≡ fix_cache p sub
-  unfolding fix_cache
-  fix-done h e = one-yes fixed 11 (le-leb sub p.idx h) e

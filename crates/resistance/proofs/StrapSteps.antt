@@ -1,22 +1,19 @@
 -- `Strap`: the searches of a call, where they end, and the resistance at two indices.
-use Prim.Native.Nat.{ℕ, ◌-◌, ◌≤◌, ◌<◌}
+use Prim.Native.Nat.{ℕ, ◌≤◌, ◌<◌}
 use mathlib.Core.Path.{◌≡◌, refl, sym, ap, ap₂, ◌∙◌, subst}
 use mathlib.Core.Bool.{Bool, true, false, not, ◌&&◌, and-true, cond}
 use mathlib.Core.List.{List, [], ◌∷◌, ◌++◌}
-use native.Mathlib.Omega.{arith}
 use borrow.Author.Tests.{eqb-true, eqb-false, le-leb, lt-leb}
-use lib.Dec.{T, eqb, leb}
+use lib.Dec.{T, eqb}
 use lib.ListN.{length}
 use lib.Ieee.{Float}
 use lib.Ieee.Scale.{finite}
 use Rattle.ieee.specs.Number.{◌⊖◌, ◌⊗◌, ◌⊘◌, all_finite}
-use Rattle.column.proofs.Bridge.{length-records}
 use Rattle.column.proofs.Finite.{finite-append}
 use Rattle.lookup.specs.declared.lin_search_hint.Dir.{Dir}
 use Rattle.lookup.specs.declared.lin_search_hint.Dir.TheVariants.{Unk, Fwd, Bwd}
 use Rattle.lookup.specs.declared.path_res_coeff.PathResCoeff.{PathResCoeff}
-use Rattle.lookup.specs.Coeff.{triple, coeffs, coeff_at, coefficient_of, res_val}
-use Rattle.lookup.proofs.Coeffs.{triple-lawful}
+use Rattle.lookup.specs.Coeff.{coeffs, coeff_at, coefficient_of, res_val}
 use Rattle.answer.specs.declared.Answer.{Answer}
 use Rattle.answer.specs.Answers.{done}
 use Rattle.path.specs.Answers.{is_done, ask, in_turn}
@@ -27,10 +24,10 @@ use Rattle.resistance.specs.declared.strap.Strap.{Strap}
 use Rattle.resistance.specs.declared.strap.StrapAnswer.{StrapAnswer}
 use Rattle.resistance.specs.declared.strap.StrapRes.{StrapRes}
 use Rattle.resistance.specs.Listed.{list_answer, search, not_searched, value_steps}
-use Rattle.resistance.specs.Strap.{Moved, strap_of, front_idx, back_idx, answered, after_search, moved_to, not_moved, moved_ends, moved, front_value, back_value, calc_res_strap, res_at, res_steps, no_strap, new_known, refused_res, calc_res_known, new_of, calc_res_of, fix_cache}
+use Rattle.resistance.specs.Strap.{Moved, strap_of, front_idx, back_idx, answered, after_search, moved_to, not_moved, moved_ends, moved, front_value, back_value, calc_res_strap, res_at, res_steps, no_strap, new_known, refused_res, calc_res_known, new_of, calc_res_of}
 use Rattle.link.proofs.Known.{and_both}
 use Rattle.ieee.proofs.Finite.{sub-finite-l, sub-finite-r, mul-finite-l, div-finite-l}
-use Rattle.resistance.proofs.Answered.{one-no, one-yes, behind-no, behind-yes, both_first, both-second, both-done}
+use Rattle.resistance.proofs.Answered.{behind-no, behind-yes, both_first, both-second, both-done}
 use Rattle.resistance.proofs.ListSteps.{list-of-state, Within, search-within, implied, last-of-three, value-finite}
 
 -- ---- what follows a search; r is the code's answer of it, and m what the code gives
@@ -150,51 +147,49 @@ module _ (t : Strap) (s : TrainState) (rs : List PathResCoeff) where
       ∙ implied (finite (front_value t s rs)) last f
 
 -- ---- the resistance; m is the code's answer of the searches
-module _ (dir : Dir) (t : Strap) (s : TrainState) (n : ℕ) (c : List Float) {m : Moved} (e : m ≡ moved dir t s (coeffs n c)) where
+module _ (dir : Dir) (t : Strap) (s : TrainState) (rs : List PathResCoeff) {m : Moved} (e : m ≡ moved dir t s rs) where
   abbrev there : Moved
-  there = moved dir t s (coeffs n c)
+  there = moved dir t s rs
 
   abbrev refuse : Answer → StrapRes
   refuse a = refused_res a t
 
   abbrev force_at : Moved → Float
-  force_at r = res_at r.one r.strap s (coeffs n c)
+  force_at r = res_at r.one r.strap s rs
 
   abbrev good : StrapRes
   good = record { answer = done; strap = there.strap; res = record { 0 = force_at there } }
 
   abbrev question : Bool
-  question = all_finite (res_steps there.one there.strap s (coeffs n c))
+  question = all_finite (res_steps there.one there.strap s rs)
 
   answer-of : m.answer ≡ there.answer
   answer-of = ap (λ (r : Moved). r.answer) e
 
-  pub res-refused : (m.answer.number ≡ 0 → ⊥) → refused_res m.answer t ≡ calc_res_known dir t s (coeffs n c)
+  pub res-refused : (m.answer.number ≡ 0 → ⊥) → refused_res m.answer t ≡ calc_res_known dir t s rs
   unfolding calc_res_known
   res-refused h = both_first refuse good answer-of 7 question h
 
   module _ (z : m.answer.number ≡ 0) where
-    placed : (m.answer ≡ done) × (front_idx m.strap < length (coeffs n c)) × (back_idx m.strap < length (coeffs n c))
-    placed = subst (Placed (coeffs n c)) (sym e) (moved-placed t s (coeffs n c) dir) z
+    placed : (m.answer ≡ done) × (front_idx m.strap < length rs) × (back_idx m.strap < length rs)
+    placed = subst (Placed rs) (sym e) (moved-placed t s rs dir) z
 
-    pub moved-below : (front_idx m.strap < n) × (back_idx m.strap < n)
-    moved-below =
-        let size = length-records triple triple-lawful n c in
-        (omega (arith, placed.1), omega (arith, placed.2))
+    pub moved-below : (front_idx m.strap < length rs) × (back_idx m.strap < length rs)
+    moved-below = (placed.1, placed.2)
 
     -- k is the coefficient that the code works out
-    module _ {k : Float} (f : k ≡ calc_res_strap m.one m.strap s (coeffs n c)) where
+    module _ {k : Float} (f : k ≡ calc_res_strap m.one m.strap s rs) where
       force : k ⊗ weight_of s ≡ force_at there
       force = ap (λ (x : Float). x ⊗ weight_of s) f ∙ ap force_at e
 
       asked-as : {b : Bool} → finite (k ⊗ weight_of s) ≡ b → question ≡ b
-      asked-as x = steps-finite there.strap s (coeffs n c) there.one ∙ ap finite (sym force) ∙ x
+      asked-as x = steps-finite there.strap s rs there.one ∙ ap finite (sym force) ∙ x
 
-      pub res-8 : {r : Answer} → finite (k ⊗ weight_of s) ≡ false → r ≡ ask 8 false → refused_res r t ≡ calc_res_known dir t s (coeffs n c)
+      pub res-8 : {r : Answer} → finite (k ⊗ weight_of s) ≡ false → r ≡ ask 8 false → refused_res r t ≡ calc_res_known dir t s rs
       unfolding calc_res_known
       res-8 x y = both-second refuse good answer-of 7 question z (asked-as x) y
 
-      pub res-found : finite (k ⊗ weight_of s) ≡ true → record { answer = m.answer; strap = m.strap; res = record { 0 = k ⊗ weight_of s } } ≡ calc_res_known dir t s (coeffs n c)
+      pub res-found : finite (k ⊗ weight_of s) ≡ true → record { answer = m.answer; strap = m.strap; res = record { 0 = k ⊗ weight_of s } } ≡ calc_res_known dir t s rs
       unfolding calc_res_known
       res-found x = given ∙ both-done refuse good answer-of 7 question z (asked-as x)
         where
@@ -223,13 +218,7 @@ module _ (t : Strap) where
       settled-behind a (record { answer = done; strap = m.strap; res = record { 0 = res_at m.one m.strap s rs } }) refl
 
 -- ---- a new strap
-module _ (s : TrainState) (n : ℕ) (c : List Float) where
-  abbrev rs : List PathResCoeff
-  rs = coeffs n c
-
-  size : length (coeffs n c) ≡ n
-  size = length-records triple triple-lawful n c
-
+module _ (s : TrainState) (rs : List PathResCoeff) where
   abbrev rear : Float
   rear = front_of s ⊖ length_of s
 
@@ -240,14 +229,14 @@ module _ (s : TrainState) (n : ℕ) (c : List Float) where
       let front = search Fwd (front_of s) back.idx rs in
       after_search no_strap back (after_search no_strap front (answered done (strap_of front.idx back.idx)))
 
-  pub new-single : {a : Answer} → n ≤ 1 → a ≡ done → no_strap a ≡ new_known s rs
+  pub new-single : {a : Answer} → length rs ≤ 1 → a ≡ done → no_strap a ≡ new_known s rs
   unfolding new_known
-  new-single h e = rw (size, le-leb n 1 h) (ap no_strap e)
+  new-single h e = rw (le-leb (length rs) 1 h) (ap no_strap e)
 
-  module _ (h : 1 < n) where
+  module _ (h : 1 < length rs) where
     new-more : new_known s rs ≡ both_ends (finite rear)
     unfolding new_known
-    new-more = rw (size, lt-leb n 1 h)
+    new-more = rw (lt-leb (length rs) 1 h)
 
     pub new-8 : {a : Answer} → finite rear ≡ false → a ≡ ask 8 false → no_strap a ≡ new_known s rs
     new-8 t e = ap no_strap e ∙ sym (new-more ∙ ap both_ends t)
@@ -287,21 +276,3 @@ module _ (s : TrainState) (n : ℕ) (c : List Float) {ok : Bool} (o : ok ≡ sta
     pub calc-passed : {r : StrapRes} → first.number ≡ 0 → r ≡ calc_res_known dir t s (coeffs n c) → r ≡ calc_res_of dir t s n c
     unfolding calc_res_of
     calc-passed z e = behind-yes (λ (a : Answer). refused_res a t) (list-of-state s n c o l) z e
-
--- ---- records dropped at the front
-module _ (t : Strap) (sub : ℕ) where
-  abbrev fixed : Answer → Bool → StrapAnswer
-  fixed a b = answered a (cond b (strap_of (front_idx t - sub) (back_idx t - sub)) t)
-
-  pub fix-back : {r : Answer} → back_idx t < sub → r ≡ ask 11 false → answered r t ≡ fix_cache t sub
-  unfolding fix_cache
-  fix-back h e = one-no fixed 10 (ap (λ (b : Bool). b && leb sub (front_idx t)) (lt-leb sub (back_idx t) h)) e
-
-  module _ (h : sub ≤ back_idx t) where
-    pub fix-front : {r : Answer} → front_idx t < sub → r ≡ ask 11 false → answered r t ≡ fix_cache t sub
-    unfolding fix_cache
-    fix-front k e = one-no fixed 10 (ap₂ ◌&&◌ (le-leb sub (back_idx t) h) (lt-leb sub (front_idx t) k)) e
-
-    pub fix-done : {r : Answer} → sub ≤ front_idx t → r ≡ ask 11 true → answered r (strap_of (front_idx t - sub) (back_idx t - sub)) ≡ fix_cache t sub
-    unfolding fix_cache
-    fix-done k e = one-yes fixed 11 (ap₂ ◌&&◌ (le-leb sub (back_idx t) h) (le-leb sub (front_idx t) k)) e

@@ -1,13 +1,10 @@
-// A list searched alone: questions 1 and 2, the values of one record, and what C is told of a result.
-ghost use Rattle.std.specs.Prelude.{◌≡◌, length};
-ghost use Rattle.answer.specs.Answers.{answer};
-ghost use Rattle.lookup.specs.Coeff.{coeffs};
+// A list searched alone: the values of one record, and what C is told of a result.
+ghost use Rattle.std.specs.Prelude.{◌≡◌};
 ghost use Rattle.lookup.specs.CalcIdx.{indexed};
 ghost use Rattle.resistance.specs.Listed as spec;
 
 use answer::{Answer, Question, Refusal};
-use lookup::calc_idx::list_sound;
-use lookup::path_res_coeff::{coeff_in, coeffs_finite};
+use lookup::coeff_list::CoeffList;
 use path::questions::done;
 use si::{Length, Ratio};
 use train::train_state::{TrainState, state_finite};
@@ -36,6 +33,7 @@ pub struct NetAnswer {
     pub res_net: Length,
 }
 
+// The three differ in the record, its field and the value of a refusal, which one generic `From` would have to be told by a trait of its own.
 impl From<Result<usize, Refusal>> for Searched {
     ghost from_gives = { λ found r. r ≡ spec.searched_of (indexed found) };
 
@@ -87,21 +85,13 @@ impl From<Result<Length, Refusal>> for NetAnswer {
     }
 }
 
-// Questions 1 and 2 of a list of n records; also is question 1 of the call's other numbers.
-pub fn list_answer(col: &[f64], n: usize, also: bool) -> Result<(), Refusal>
-    ensures { answer result ≡ spec.list_answer also n col.now }
-{
-    Question::Finite.ask(also && coeffs_finite(col, n, true))?;
-    Question::Sound.ask(list_sound(col, n))
-}
-
 // The coefficient of record idx of a list: questions 1, 2 and 11.
 pub fn res_coeff(idx: usize, col: &[f64], n: usize) -> Result<Ratio, Refusal>
     ensures { spec.coeff_told result ≡ spec.res_coeff_of idx n col.now }
 {
-    list_answer(col, n, true)?;
-    Question::Hint.ask(idx < n)?;
-    Ok(coeff_in(col, n, idx).res_coeff)
+    let list = CoeffList::judged(col, n, true)?;
+    Question::Hint.ask(idx < list.len())?;
+    Ok(list.at(idx).res_coeff)
 }
 
 // The value at the offset x of record idx of a list: questions 1, 2, 11 and 8. The position's numbers are asked, too.
@@ -114,9 +104,9 @@ pub fn res_net(
 ) -> Result<Length, Refusal>
     ensures { spec.net_told result ≡ spec.res_net_of idx x.0 state n col.now }
 {
-    list_answer(col, n, state_finite(state))?;
-    Question::Hint.ask(idx < n)?;
-    let v = coeff_in(col, n, idx).calc_res_val(x);
+    let list = CoeffList::judged(col, n, state_finite(state))?;
+    Question::Hint.ask(idx < list.len())?;
+    let v = list.at(idx).calc_res_val(x);
     Question::Results.ask(ieee::is_finite(v.0))?;
     Ok(v)
 }

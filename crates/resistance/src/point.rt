@@ -1,15 +1,13 @@
 // `Point`: the train as a point in its middle.
-ghost use Rattle.std.specs.Prelude.{◌≡◌, ◌*◌, ◌≤◌, ◌<◌, length};
-ghost use Rattle.lookup.specs.Coeff.{coeffs};
+ghost use Rattle.std.specs.Prelude.{◌≡◌};
 ghost use Rattle.lookup.specs.CalcIdx.{indexed};
 ghost use Rattle.resistance.specs.Listed.{searched_of, coeff_told, net_told, res_coeff_of, res_net_of};
 ghost use Rattle.resistance.specs.Point as spec;
 
-use crate::listed::{list_answer, res_coeff, res_net};
+use crate::listed::{res_coeff, res_net};
 use answer::{Answer, Question, Refusal};
+use lookup::coeff_list::CoeffList;
 use lookup::lin_search_hint::Dir;
-use lookup::path_res_coeff::coeff_in;
-use lookup::search::find;
 use path::questions::done;
 use si::{Force, Length, Ratio};
 use train::train_state::{TrainState, state_finite};
@@ -85,29 +83,26 @@ impl PointRes {
 
 // The search of the train's middle: question 8 of where it is, then 10 and 11.
 fn search_middle(
-    col: &[f64],
-    n: usize,
+    list: &CoeffList,
     state: TrainState,
     hint: usize,
     dir: Dir,
 ) -> Result<usize, Refusal>
-    requires n_nonzero { 0 < n }
-    requires n_in_bounds { 3 * n ≤ length col.now }
-    ensures { searched_of (indexed result) ≡ spec.search_middle dir hint state (coeffs n col.now) }
+    ensures { searched_of (indexed result) ≡ spec.search_middle dir hint state list.now }
 {
     let middle = state.offset.0 - state.length.0 * 0.5;
     Question::Results.ask(ieee::is_finite(middle))?;
-    find(col, n, Length(middle), hint, dir)
+    list.find(Length(middle), hint, dir)
 }
 
+// `new` and `calc_res` read as `Strap`'s do, and are written twice on purpose: each hands back a record of its own, and a train as a point is
+// to be taken out one day, which then touches this file alone.
 impl Point {
     // A new point on a list that is known to be sound.
-    pub fn new_known(col: &[f64], n: usize, state: TrainState) -> Result<Point, Refusal>
-        requires n_nonzero { 0 < n }
-        requires n_in_bounds { 3 * n ≤ length col.now }
-        ensures { spec.point_told (spec.point_of 0) result ≡ spec.new_known state (coeffs n col.now) }
+    pub fn new_known(list: &CoeffList, state: TrainState) -> Result<Point, Refusal>
+        ensures { spec.point_told (spec.point_of 0) result ≡ spec.new_known state list.now }
     {
-        let idx = search_middle(col, n, state, 0, Dir::Fwd)?;
+        let idx = search_middle(list, state, 0, Dir::Fwd)?;
         Ok(Point { idx })
     }
 
@@ -115,24 +110,21 @@ impl Point {
     pub fn new(col: &[f64], n: usize, state: TrainState) -> Result<Point, Refusal>
         ensures { spec.point_told (spec.point_of 0) result ≡ spec.new_of state n col.now }
     {
-        list_answer(col, n, state_finite(state))?;
-        Point::new_known(col, n, state)
+        let list = CoeffList::judged(col, n, state_finite(state))?;
+        Point::new_known(&list, state)
     }
 
     // The resistance of a point on a list that is known to be sound.
     pub fn calc_res_known(
         self,
-        col: &[f64],
-        n: usize,
+        list: &CoeffList,
         state: TrainState,
         dir: Dir,
     ) -> Result<PointForce, Refusal>
-        requires n_nonzero { 0 < n }
-        requires n_in_bounds { 3 * n ≤ length col.now }
-        ensures { spec.res_told self result ≡ spec.calc_res_known dir self state (coeffs n col.now) }
+        ensures { spec.res_told self result ≡ spec.calc_res_known dir self state list.now }
     {
-        let idx = search_middle(col, n, state, self.idx, dir)?;
-        let res = coeff_in(col, n, idx).res_coeff.0 * state.weight_static.0;
+        let idx = search_middle(list, state, self.idx, dir)?;
+        let res = list.at(idx).res_coeff.0 * state.weight_static.0;
         Question::Results.ask(ieee::is_finite(res))?;
         Ok(PointForce {
             point: Point { idx },
@@ -150,8 +142,8 @@ impl Point {
     ) -> Result<PointForce, Refusal>
         ensures { spec.res_told self result ≡ spec.calc_res_of dir self state n col.now }
     {
-        list_answer(col, n, state_finite(state))?;
-        self.calc_res_known(col, n, state, dir)
+        let list = CoeffList::judged(col, n, state_finite(state))?;
+        self.calc_res_known(&list, state, dir)
     }
 
     // The coefficient of the point's record.

@@ -1,14 +1,12 @@
 // `Strap`: the train as a strap from front to back.
-ghost use Rattle.std.specs.Prelude.{◌≡◌, ◌*◌, ◌≤◌, ◌<◌, length};
-ghost use Rattle.lookup.specs.Coeff.{coeffs};
+ghost use Rattle.std.specs.Prelude.{◌≡◌, ◌<◌, length};
 ghost use Rattle.resistance.specs.Listed.{coeff_told, net_told, res_coeff_of, res_net_of};
 ghost use Rattle.resistance.specs.Strap as spec;
 
-use crate::listed::{list_answer, res_coeff, res_net};
+use crate::listed::{res_coeff, res_net};
 use answer::{Answer, Question, Refusal};
+use lookup::coeff_list::CoeffList;
 use lookup::lin_search_hint::Dir;
-use lookup::path_res_coeff::coeff_in;
-use lookup::search::find;
 use path::questions::done;
 use si::{Force, Length, Ratio};
 use train::train_state::{TrainState, state_finite};
@@ -112,74 +110,60 @@ fn moved_ends(
     y: Length,
     k: usize,
     both: bool,
-    col: &[f64],
-    n: usize,
+    list: &CoeffList,
     dir: Dir,
 ) -> Result<Ends, Refusal>
-    requires n_nonzero { 0 < n }
-    requires n_in_bounds { 3 * n ≤ length col.now }
-    ensures { spec.moved_told (spec.strap_of i k) result ≡ spec.moved_ends dir both x.0 i y.0 k (coeffs n col.now) }
+    ensures { spec.moved_told (spec.strap_of i k) result ≡ spec.moved_ends dir both x.0 i y.0 k list.now }
 {
-    let first = find(col, n, x, i, dir)?;
+    let first = list.find(x, i, dir)?;
     if !both & (first == k) {
         return Ok(Ends::at(first, k, true));
     }
-    let second = find(col, n, y, k, dir)?;
+    let second = list.find(y, k, dir)?;
     Ok(Ends::at(first, second, both & (first == second)))
 }
 
 impl Strap {
     // The two indices after the searches of a direction.
-    pub fn moved_by(
-        self,
-        col: &[f64],
-        n: usize,
-        state: TrainState,
-        dir: Dir,
-    ) -> Result<Ends, Refusal>
-        requires n_nonzero { 0 < n }
-        requires n_in_bounds { 3 * n ≤ length col.now }
-        ensures { spec.moved_told self result ≡ spec.moved dir self state (coeffs n col.now) }
+    pub fn moved_by(self, list: &CoeffList, state: TrainState, dir: Dir) -> Result<Ends, Refusal>
+        ensures { spec.moved_told self result ≡ spec.moved dir self state list.now }
     {
         let front = self.idx_front;
         let back = self.idx_back;
         let x = state.offset;
         let y = state.offset_back;
         match dir {
-            Dir::Fwd => moved_ends(x, front, y, back, false, col, n, Dir::Fwd),
-            Dir::Unk => moved_ends(x, front, y, back, true, col, n, Dir::Unk),
+            Dir::Fwd => moved_ends(x, front, y, back, false, list, Dir::Fwd),
+            Dir::Unk => moved_ends(x, front, y, back, true, list, Dir::Unk),
             Dir::Bwd => {
-                let m = moved_ends(y, back, x, front, false, col, n, Dir::Bwd)?;
+                let m = moved_ends(y, back, x, front, false, list, Dir::Bwd)?;
                 Ok(Ends::at(m.strap.idx_back, m.strap.idx_front, m.one))
             }
         }
     }
 
     // The strap's coefficient: that of the one record, or (front value - back value) / length.
-    pub fn calc_res_strap(self, one: bool, col: &[f64], n: usize, state: TrainState) -> Ratio
-        requires idx_front_bound { self.idx_front < n }
-        requires idx_back_bound { self.idx_back < n }
-        requires n_in_bounds { 3 * n ≤ length col.now }
-        ensures { result.0 ≡ spec.calc_res_strap one self state (coeffs n col.now) }
+    pub fn calc_res_strap(self, one: bool, list: &CoeffList, state: TrainState) -> Ratio
+        requires idx_front_bound { self.idx_front < length list.now }
+        requires idx_back_bound { self.idx_back < length list.now }
+        ensures { result.0 ≡ spec.calc_res_strap one self state list.now }
     {
-        let front = coeff_in(col, n, self.idx_front);
+        let front = list.at(self.idx_front);
         if one {
             return front.res_coeff;
         }
         let front_value = front.calc_res_val(state.offset);
-        let back = coeff_in(col, n, self.idx_back);
+        let back = list.at(self.idx_back);
         let back_value = back.calc_res_val(state.offset_back);
         let length = state.length.0;
         Ratio((front_value.0 - back_value.0) / length)
     }
 
     // A new strap on a list that is known to be sound.
-    pub fn new_known(col: &[f64], n: usize, state: TrainState) -> Result<Strap, Refusal>
-        requires n_nonzero { 0 < n }
-        requires n_in_bounds { 3 * n ≤ length col.now }
-        ensures { spec.strap_told (spec.strap_of 0 0) result ≡ spec.new_known state (coeffs n col.now) }
+    pub fn new_known(list: &CoeffList, state: TrainState) -> Result<Strap, Refusal>
+        ensures { spec.strap_told (spec.strap_of 0 0) result ≡ spec.new_known state list.now }
     {
-        if n <= 1 {
+        if list.len() <= 1 {
             return Ok(Strap {
                 idx_front: 0,
                 idx_back: 0,
@@ -187,8 +171,8 @@ impl Strap {
         }
         let x = state.offset.0 - state.length.0;
         Question::Results.ask(ieee::is_finite(x))?;
-        let idx_back = find(col, n, Length(x), 0, Dir::Fwd)?;
-        let idx_front = find(col, n, state.offset, idx_back, Dir::Fwd)?;
+        let idx_back = list.find(Length(x), 0, Dir::Fwd)?;
+        let idx_front = list.find(state.offset, idx_back, Dir::Fwd)?;
         Ok(Strap {
             idx_front,
             idx_back,
@@ -199,25 +183,22 @@ impl Strap {
     pub fn new(col: &[f64], n: usize, state: TrainState) -> Result<Strap, Refusal>
         ensures { spec.strap_told (spec.strap_of 0 0) result ≡ spec.new_of state n col.now }
     {
-        list_answer(col, n, state_finite(state))?;
-        Strap::new_known(col, n, state)
+        let list = CoeffList::judged(col, n, state_finite(state))?;
+        Strap::new_known(&list, state)
     }
 
     // The resistance of a strap on a list that is known to be sound.
     pub fn calc_res_known(
         self,
-        col: &[f64],
-        n: usize,
+        list: &CoeffList,
         state: TrainState,
         dir: Dir,
     ) -> Result<StrapForce, Refusal>
-        requires n_nonzero { 0 < n }
-        requires n_in_bounds { 3 * n ≤ length col.now }
-        ensures { spec.res_told self result ≡ spec.calc_res_known dir self state (coeffs n col.now) }
+        ensures { spec.res_told self result ≡ spec.calc_res_known dir self state list.now }
     {
-        let m = self.moved_by(col, n, state, dir)?;
+        let m = self.moved_by(list, state, dir)?;
         let strap = m.strap;
-        let coeff = strap.calc_res_strap(m.one, col, n, state);
+        let coeff = strap.calc_res_strap(m.one, list, state);
         let res = coeff.0 * state.weight_static.0;
         Question::Results.ask(ieee::is_finite(res))?;
         Ok(StrapForce {
@@ -236,8 +217,8 @@ impl Strap {
     ) -> Result<StrapForce, Refusal>
         ensures { spec.res_told self result ≡ spec.calc_res_of dir self state n col.now }
     {
-        list_answer(col, n, state_finite(state))?;
-        self.calc_res_known(col, n, state, dir)
+        let list = CoeffList::judged(col, n, state_finite(state))?;
+        self.calc_res_known(&list, state, dir)
     }
 
     // The coefficient of the front's record.

@@ -1,7 +1,6 @@
 -- `counts_lead`: before point i stand the sums, which are its first records, and the answer for the points before it.
 use native.Mathlib.Omega.{arith}
 use mathlib.Core.Path.{sym}
-use Rattle.lookup.specs.Coeff.{coeffs}
 use Rattle.path.specs.Records.{grade_count_of, curve_count_of, power_count_of}
 use Rattle.path.proofs.Counts.{counts-small, counted-small, counted-fits}
 use Rattle.path.proofs.Lead.{led-none, led-more, grades-over, curves-over, led-all}
@@ -10,26 +9,20 @@ use Rattle.path.proofs.sound.counts_lead.Goals as goal
 pub loop-i-init : goal.loop-i-init
 loop-i-init c =
     let a = c.args in
-    led-none a.p (coeffs a.p.grade_count a.grades.now) (coeffs a.p.curve_count a.curves.now) a.offsets.now a.numbers.now
+    led-none a.p a.grades.now a.curves.now a.offsets.now a.numbers.now
 
 pub returns-then-grade_count-g : goal.returns-then-grade_count-g
 returns-then-grade_count-g c =
     let a = c.args in
-    sym (grades-over a.p (coeffs a.p.grade_count a.grades.now) (coeffs a.p.curve_count a.curves.now) a.offsets.now a.numbers.now c.loop-i.invariant c.if-grade_count-g.true)
+    sym (grades-over a.p a.grades.now a.curves.now a.offsets.now a.numbers.now c.loop-i.invariant c.if-grade_count-g.true)
 
 pub returns-then-curve_count-k : goal.returns-then-curve_count-k
 returns-then-curve_count-k c =
     let a = c.args in
-    sym (curves-over a.p (coeffs a.p.grade_count a.grades.now) (coeffs a.p.curve_count a.curves.now) a.offsets.now a.numbers.now c.loop-i.invariant c.if-curve_count-k.true)
+    sym (curves-over a.p a.grades.now a.curves.now a.offsets.now a.numbers.now c.loop-i.invariant c.if-curve_count-k.true)
 
 pub link_point_within-q-requires : goal.link_point_within-q-requires
 link_point_within-q-requires c = record { i_in_bounds = omega arith; i_in_bounds_2 = omega arith }
-
-pub offset_at-slope-requires : goal.offset_at-slope-requires
-offset_at-slope-requires c = record { i_lt_n = omega arith; n_in_bounds = c.requires.grade_count_in_bounds }
-
-pub offset_at-bend-requires : goal.offset_at-bend-requires
-offset_at-bend-requires c = record { i_lt_n = omega arith; n_in_bounds = c.requires.curve_count_in_bounds }
 
 pub overflow_add-g : goal.overflow_add-g
 overflow_add-g c =
@@ -60,8 +53,8 @@ loop-i-preserved c =
     let a = c.args in
     led-more
     a.p
-    (coeffs a.p.grade_count a.grades.now)
-    (coeffs a.p.curve_count a.curves.now)
+    a.grades.now
+    a.curves.now
     a.offsets.now
     a.numbers.now
     c.loop-i.invariant
@@ -81,4 +74,4 @@ counts_add_up-requires c =
 pub returns : goal.returns
 returns c =
     let a = c.args in
-    led-all a.p (coeffs a.p.grade_count a.grades.now) (coeffs a.p.curve_count a.curves.now) a.offsets.now a.numbers.now c.loop-i.invariant (omega arith) c.counts_add_up.ensures
+    led-all a.p a.grades.now a.curves.now a.offsets.now a.numbers.now c.loop-i.invariant (omega arith) c.counts_add_up.ensures

@@ -1,8 +1,7 @@
 -- `counts_lead`: before point i stand the sums, which are its first records, and the answer for the points before it.
-use Rattle.lookup.specs.Coeff.{coeffs}
 use Rattle.path.proofs.Lead.{Led}
 use Rattle.path.proofs.sound.counts_lead.Given as goal
 
 abbrev pub invariant-loop-i : goal.invariant-loop-i
 invariant-loop-i l =
-    Led l.p (coeffs l.p.grade_count l.grades) (coeffs l.p.curve_count l.curves) l.offsets l.numbers l.i l.g l.k l.w l.ok
+    Led l.p l.grades l.curves l.offsets l.numbers l.i l.g l.k l.w l.ok

@@ -1,4 +1,8 @@
 -- `sound_path`: the counts lie within the columns, and then the clauses, the last of them first.
+use mathlib.Core.Path.{ap}
+use native.Mathlib.Omega.{arith}
+use lib.ListN.{length}
+use Rattle.lookup.proofs.Coeffs.{length-coeffs}
 use Rattle.path.specs.Records.{lent}
 use Rattle.path.proofs.Clauses.{some-link, some-records, bounds, room, joined}
 use Rattle.path.proofs.sound.sound_path.Goals as goal
@@ -34,16 +38,34 @@ sorted_from-sorted-requires c =
     let a = c.args in
     let l = lent a.cols.now in record { n_nonzero = (some-records a.p l c.requires.p_value).2; n_in_bounds = (room a.p l c.requires.in_columns).speeds }
 
+pub new-grades-requires : goal.new-grades-requires
+new-grades-requires c =
+    let a = c.args in
+    let l = lent a.cols.now in record { some = (some-records a.p l c.requires.p_value).0; in_column = (room a.p l c.requires.in_columns).grades }
+
+pub new-curves-requires : goal.new-curves-requires
+new-curves-requires c =
+    let a = c.args in
+    let l = lent a.cols.now in record { some = (some-records a.p l c.requires.p_value).1; in_column = (room a.p l c.requires.in_columns).curves }
+
 pub counts_lead-lead-requires : goal.counts_lead-lead-requires
 counts_lead-lead-requires c =
     let a = c.args in
     let l = lent a.cols.now in
-    let within = room a.p l c.requires.in_columns in record { link_count_bound = (bounds a.p l c.requires.in_columns).0; link_count_in_bounds = within.offsets; link_count_in_bounds_2 = within.numbers; grade_count_in_bounds = within.grades; curve_count_in_bounds = within.curves }
+    let within = room a.p l c.requires.in_columns in
+    record {
+      link_count_bound = (bounds a.p l c.requires.in_columns).0;
+      link_count_in_bounds = within.offsets;
+      link_count_in_bounds_2 = within.numbers;
+      grade_count_in_list = omega (arith, ap length c.new-grades.ensures, length-coeffs a.p.grade_count a.cols.now.grades.now);
+      curve_count_in_list = omega (arith, ap length c.new-curves.ensures, length-coeffs a.p.curve_count a.cols.now.curves.now);
+    }
 
 pub returns : goal.returns
 returns c =
     let a = c.args in
     let l = lent a.cols.now in
+    let led = rw (c.new-grades.ensures, c.new-curves.ensures) at c.counts_lead-lead.ensures in
     joined
     a.p
     l
@@ -55,4 +77,4 @@ returns c =
     c.numbers_real.ensures
     c.link_point_at.ensures
     c.sorted_from-sorted.ensures
-    c.counts_lead-lead.ensures
+    led

@@ -7,7 +7,6 @@ use Prim.Native.Nat.{ℕ}
 use lib.Ieee.{of_bits}
 use Rattle.answer.specs.declared.Refusal.{Refusal}
 use Rattle.lookup.specs.CalcIdx.{indexed}
-use Rattle.lookup.specs.Coeff.{coeffs}
 use Rattle.resistance.specs.Listed.{searched_of}
 use Rattle.resistance.proofs.ListSteps.{search-of}
 use Rattle.resistance.proofs.PointSteps.{middle-refused, middle-searched}
@@ -21,10 +20,10 @@ returns-in_err-ask c =
     let x = c.in_err-ask.field-0.0 in
     let f : c.from_residual.result ≡ Err x = grind (arith, common_steps) in
     let no = ask-no _ c.ask.ensures c.in_err-ask.was in
-    ap (λ (r : Result ℕ Refusal). searched_of (indexed r)) (f ∙ ap Err no.1) ∙ middle-refused a.dir a.hint a.state (coeffs a.n a.col.now) (sym c.is_finite.ensures ∙ no.0) refl
+    ap (λ (r : Result ℕ Refusal). searched_of (indexed r)) (f ∙ ap Err no.1) ∙ middle-refused a.dir a.hint a.state a.list.now (sym c.is_finite.ensures ∙ no.0) refl
 
 pub returns : goal.returns
 unfolding of_bits
 returns c =
     let a = c.args in
-    middle-searched a.dir a.hint a.state (coeffs a.n a.col.now) (sym c.is_finite.ensures ∙ ask-yes _ c.ask.ensures c.in_ok-ask.was) (search-of a.dir _ a.hint (coeffs a.n a.col.now) c.find.ensures)
+    middle-searched a.dir a.hint a.state a.list.now (sym c.is_finite.ensures ∙ ask-yes _ c.ask.ensures c.in_ok-ask.was) (search-of a.dir _ a.hint a.list.now c.find.ensures)

@@ -13,11 +13,11 @@ returns-in_err-idx c =
     let a = c.args in
     let x = c.in_err-idx.field-0.0 in
     let f : c.from_residual.result ≡ Err x = grind (arith, common_steps) in
-    ap (res_told a.self) f ∙ res-refused a.dir a.self a.state a.n a.col.now (search-no c.search_middle.ensures c.in_err-idx.was) (not-done x)
+    ap (res_told a.self) f ∙ res-refused a.dir a.self a.state a.list.now (search-no c.search_middle.ensures c.in_err-idx.was) (not-done x)
 
-pub coeff_in-requires-clause-i_lt_n : goal.coeff_in-requires-clause-i_lt_n
-coeff_in-requires-clause-i_lt_n c =
-    let a = c.args in res-below a.dir a.self a.state a.n a.col.now (search-yes c.search_middle.ensures c.in_ok-idx.was) refl
+pub at-requires : goal.at-requires
+at-requires c =
+    let a = c.args in res-below a.dir a.self a.state a.list.now (search-yes c.search_middle.ensures c.in_ok-idx.was) refl
 
 pub returns-in_err-ask : goal.returns-in_err-ask
 returns-in_err-ask c =
@@ -25,8 +25,8 @@ returns-in_err-ask c =
     let x = c.in_err-ask.field-0.0 in
     let f : c.from_residual-in_err-ask.result ≡ Err x = grind (arith, common_steps) in
     let no = ask-no _ c.ask.ensures c.in_err-ask.was in
-    ap (res_told a.self) (f ∙ ap Err no.1) ∙ res-8 a.dir a.self a.state a.n a.col.now (search-yes c.search_middle.ensures c.in_ok-idx.was) refl c.coeff_in.ensures (sym c.is_finite.ensures ∙ no.0) refl
+    ap (res_told a.self) (f ∙ ap Err no.1) ∙ res-8 a.dir a.self a.state a.list.now (search-yes c.search_middle.ensures c.in_ok-idx.was) refl c.at.ensures (sym c.is_finite.ensures ∙ no.0) refl
 
 pub returns : goal.returns
 returns c =
-    let a = c.args in res-found a.dir a.self a.state a.n a.col.now (search-yes c.search_middle.ensures c.in_ok-idx.was) refl c.coeff_in.ensures (sym c.is_finite.ensures ∙ ask-yes _ c.ask.ensures c.in_ok-ask.was)
+    let a = c.args in res-found a.dir a.self a.state a.list.now (search-yes c.search_middle.ensures c.in_ok-idx.was) refl c.at.ensures (sym c.is_finite.ensures ∙ ask-yes _ c.ask.ensures c.in_ok-ask.was)

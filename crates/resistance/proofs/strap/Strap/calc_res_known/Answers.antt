@@ -13,15 +13,15 @@ returns-in_err-m c =
     let a = c.args in
     let x = c.in_err-m.field-0.0 in
     let f : c.from_residual.result ≡ Err x = grind (arith, common_steps) in
-    ap (res_told a.self) f ∙ res-refused a.dir a.self a.state a.n a.col.now (ap (moved_told a.self) (sym c.in_err-m.was) ∙ c.moved_by.ensures) (not-done x)
+    ap (res_told a.self) f ∙ res-refused a.dir a.self a.state a.list.now (ap (moved_told a.self) (sym c.in_err-m.was) ∙ c.moved_by.ensures) (not-done x)
 
 pub calc_res_strap-coeff-requires-clause-idx_front_bound : goal.calc_res_strap-coeff-requires-clause-idx_front_bound
 calc_res_strap-coeff-requires-clause-idx_front_bound c =
-    let a = c.args in (moved-below a.dir a.self a.state a.n a.col.now (ap (moved_told a.self) (sym c.in_ok-m.was) ∙ c.moved_by.ensures) refl).0
+    let a = c.args in (moved-below a.dir a.self a.state a.list.now (ap (moved_told a.self) (sym c.in_ok-m.was) ∙ c.moved_by.ensures) refl).0
 
 pub calc_res_strap-coeff-requires-clause-idx_back_bound : goal.calc_res_strap-coeff-requires-clause-idx_back_bound
 calc_res_strap-coeff-requires-clause-idx_back_bound c =
-    let a = c.args in (moved-below a.dir a.self a.state a.n a.col.now (ap (moved_told a.self) (sym c.in_ok-m.was) ∙ c.moved_by.ensures) refl).1
+    let a = c.args in (moved-below a.dir a.self a.state a.list.now (ap (moved_told a.self) (sym c.in_ok-m.was) ∙ c.moved_by.ensures) refl).1
 
 pub returns-in_err-ask : goal.returns-in_err-ask
 returns-in_err-ask c =
@@ -29,8 +29,8 @@ returns-in_err-ask c =
     let x = c.in_err-ask.field-0.0 in
     let f : c.from_residual-in_err-ask.result ≡ Err x = grind (arith, common_steps) in
     let no = ask-no _ c.ask.ensures c.in_err-ask.was in
-    ap (res_told a.self) (f ∙ ap Err no.1) ∙ res-8 a.dir a.self a.state a.n a.col.now (ap (moved_told a.self) (sym c.in_ok-m.was) ∙ c.moved_by.ensures) refl c.calc_res_strap-coeff.ensures (sym c.is_finite.ensures ∙ no.0) refl
+    ap (res_told a.self) (f ∙ ap Err no.1) ∙ res-8 a.dir a.self a.state a.list.now (ap (moved_told a.self) (sym c.in_ok-m.was) ∙ c.moved_by.ensures) refl c.calc_res_strap-coeff.ensures (sym c.is_finite.ensures ∙ no.0) refl
 
 pub returns : goal.returns
 returns c =
-    let a = c.args in res-found a.dir a.self a.state a.n a.col.now (ap (moved_told a.self) (sym c.in_ok-m.was) ∙ c.moved_by.ensures) refl c.calc_res_strap-coeff.ensures (sym c.is_finite.ensures ∙ ask-yes _ c.ask.ensures c.in_ok-ask.was)
+    let a = c.args in res-found a.dir a.self a.state a.list.now (ap (moved_told a.self) (sym c.in_ok-m.was) ∙ c.moved_by.ensures) refl c.calc_res_strap-coeff.ensures (sym c.is_finite.ensures ∙ ask-yes _ c.ask.ensures c.in_ok-ask.was)

@@ -2,7 +2,7 @@
 use native.Mathlib.Omega.{arith}
 use Rattle.std.proofs.lemmas.Bool.Decides.{nat_tests}
 use Rattle.lookup.specs.CalcIdx.{list_sound}
-use Rattle.lookup.proofs.calc_idx.list_sound.Goals as goal
+use Rattle.lookup.proofs.coeff_list.list_sound.Goals as goal
 
 pub returns-then-n-gt0 : goal.returns-then-n-gt0
 unfolding list_sound

@@ -4,29 +4,23 @@ use mathlib.Core.Path.{◌≡◌, sym, ap, ◌∙◌}
 use native.Mathlib.Omega.{arith}
 use lib.Ieee as Ieee
 use lib.Ieee.{Float}
-use Rattle.column.proofs.Bridge.{length-records}
-use Rattle.lookup.specs.Coeff.{triple, coeffs}
-use Rattle.lookup.proofs.Coeffs.{triple-lawful}
 use Rattle.lookup.proofs.SearchSteps.{forward-pass, forward-stop, forward-end}
-use Rattle.lookup.proofs.search.forward.Goals as goal
+use Rattle.lookup.proofs.coeff_list.CoeffList.forward.Goals as goal
 
 pub returns-then-not-offset_at-x : goal.returns-then-not-offset_at-x
 returns-then-not-offset_at-x c =
     let a = c.args in
-    let size = length-records triple triple-lawful a.n a.col.now in
     let t = ap (λ (y : Float). Ieee.lt y a.x.0) (sym c.offset_at.ensures) ∙ c.if-not-offset_at-x.true in
-    sym (forward-stop a.x.0 (coeffs a.n a.col.now) c.loop-i.i (omega arith) t) ∙ c.loop-i.invariant
+    sym (forward-stop a.x.0 a.self.now c.loop-i.i (omega arith) t) ∙ c.loop-i.invariant
 
 pub loop-i-preserved : goal.loop-i-preserved
 loop-i-preserved c =
     let a = c.args in
-    let size = length-records triple triple-lawful a.n a.col.now in
     let t = ap (λ (y : Float). Ieee.lt y a.x.0) (sym c.offset_at.ensures) ∙ c.if-not-offset_at-x.false in
-    sym (forward-pass a.x.0 (coeffs a.n a.col.now) c.loop-i.i (omega arith) t) ∙ c.loop-i.invariant
+    sym (forward-pass a.x.0 a.self.now c.loop-i.i (omega arith) t) ∙ c.loop-i.invariant
 
 pub returns : goal.returns
 returns c =
     let a = c.args in
-    let size = length-records triple triple-lawful a.n a.col.now in
-    let last : c.loop-i.i ≡ a.n - 1 = omega arith in
-    cc (forward-end a.x.0 (coeffs a.n a.col.now) c.loop-i.i (omega arith), last)
+    let last : c.loop-i.i ≡ c.len-last.result - 1 = omega arith in
+    cc (forward-end a.x.0 a.self.now c.loop-i.i (omega arith), last)
