@@ -1,5 +1,5 @@
 -- The last link point at or before an offset, searched from the last one back; and the first link point.
-use Prim.Native.Nat.{ℕ, ◌-◌, ◌≤◌, ◌<◌}
+use Prim.Native.Nat.{ℕ, ◌-◌, ◌<◌}
 use native.Mathlib.Omega.{arith}
 use mathlib.Core.Path.{◌≡◌, sym, ap, ◌∙◌}
 use mathlib.Core.Bool.{true, false, ◌&&◌}
@@ -38,8 +38,8 @@ module _ (os : List Float) (ns : List ℕ) (n : ℕ) where
       unfolding point_behind
       ends e f = f ∙ sym (link_at n os ns i no_link_point passed.0) ∙ ap (link_point_at links) (sym e ∙ passed.1)
 
-      pub passed-all : {p : LinkPoint} → i ≤ 0 → p ≡ point_at os ns i → p ≡ point_behind x links
-      passed-all h f = ends (backward-first offset_at x i h) f
+      pub passed-all : {p : LinkPoint} → i ≡ 0 → p ≡ point_at os ns 0 → p ≡ point_behind x links
+      passed-all h f = ends (backward-first offset_at x i (omega (arith, h))) (f ∙ ap (point_at os ns) (sym h))
 
       -- o is entry i of the offsets
       module _ {o : Float} (e : o ≡ get_or os i +0) where

@@ -1,5 +1,4 @@
 -- Laws of the definitions.
 pub mod Behind
 pub mod Fields
-pub mod Lent
 pub mod Moves

@@ -1,11 +1,13 @@
 // `set_link_and_offset`: the position record is lent, and its three link fields are written.
 ghost use Rattle.std.specs.Prelude.{◌≡◌};
-ghost use Rattle.path.specs.Records.{columns};
-ghost use Rattle.train.specs.Locate.{locate_of, placed};
+ghost use Rattle.answer.specs.Answers.{answer};
+ghost use Rattle.path.specs.Records.{lent};
+ghost use Rattle.train.specs.Locate.{locate_of, placed, state_told};
 
 use crate::locate::locate;
 use crate::train_state::TrainState;
-use answer::Answer;
+use answer::{Answer, Refusal};
+use path::columns::PathColumns;
 use path::path_tpc::PathTpc;
 
 // A position, and the answer of the call that handed it back.
@@ -16,49 +18,49 @@ pub struct StateAnswer {
     pub state: TrainState,
 }
 
+impl StateAnswer {
+    // What C is told of a call on a position: a refused one hands back the position that came.
+    pub fn told(before: TrainState, r: Result<TrainState, Refusal>) -> StateAnswer
+        ensures { result ≡ state_told before r }
+    {
+        match r {
+            Ok(state) => StateAnswer {
+                answer: Answer::from(Ok(())),
+                state,
+            },
+            Err(e) => StateAnswer {
+                answer: Answer::from(e),
+                state: before,
+            },
+        }
+    }
+}
+
 // Writes the links where front and back stand, and the front's offset in its link; a refused call leaves the record as it came.
 pub fn set_link_and_offset(
     state: &mut TrainState,
     path: PathTpc,
-    offsets: &[f64],
-    numbers: &[u32],
-    grades: &[f64],
-    curves: &[f64],
-    speeds: &[f64],
-    powers: &[f64],
-    districts: &[u32],
-) -> Answer
-    ensures { (result ≡ (locate_of state.old path (columns offsets.now numbers.now grades.now curves.now speeds.now powers.now districts.now)).answer)
-        × (state.new ≡ placed state.old
-        (locate_of state.old path (columns offsets.now numbers.now grades.now curves.now speeds.now powers.now districts.now))) }
+    cols: &PathColumns,
+) -> Result<(), Refusal>
+    ensures answer { answer result ≡ (locate_of state.old path (lent cols.now)).answer }
+    ensures state { state.new ≡ placed state.old (locate_of state.old path (lent cols.now)) }
 {
-    let s = *state;
-    let r = locate(
-        s, path, offsets, numbers, grades, curves, speeds, powers, districts,
-    );
-    state.link_idx_front = r.link_idx_front;
-    state.link_idx_back = r.link_idx_back;
-    state.offset_in_link = r.offset_in_link;
-    r.answer
+    let found = locate(*state, path, cols)?;
+    state.link_idx_front = found.link_idx_front;
+    state.link_idx_back = found.link_idx_back;
+    state.offset_in_link = found.offset_in_link;
+    Ok(())
 }
 
-// The same by value: a local is lent, and handed back with the answer.
+// The same by value: a local is lent, and handed back.
 pub fn with_link_and_offset(
     mut state: TrainState,
     path: PathTpc,
-    offsets: &[f64],
-    numbers: &[u32],
-    grades: &[f64],
-    curves: &[f64],
-    speeds: &[f64],
-    powers: &[f64],
-    districts: &[u32],
-) -> StateAnswer
-    ensures { (result.answer ≡ (locate_of state path (columns offsets.now numbers.now grades.now curves.now speeds.now powers.now districts.now)).answer)
-        × (result.state ≡ placed state (locate_of state path (columns offsets.now numbers.now grades.now curves.now speeds.now powers.now districts.now))) }
+    cols: &PathColumns,
+) -> Result<TrainState, Refusal>
+    ensures answer { (state_told state result).answer ≡ (locate_of state path (lent cols.now)).answer }
+    ensures state { (state_told state result).state ≡ placed state (locate_of state path (lent cols.now)) }
 {
-    let answer = set_link_and_offset(
-        &mut state, path, offsets, numbers, grades, curves, speeds, powers, districts,
-    );
-    StateAnswer { answer, state }
+    set_link_and_offset(&mut state, path, cols)?;
+    Ok(state)
 }

@@ -1,35 +1,33 @@
 -- `locate`: the questions in their order.
-use mathlib.Core.Path.{◌∙◌}
-use Rattle.path.specs.Records.{columns}
-use Rattle.train.proofs.Fields.{locate-first, links-there, locate-10, locate-8}
+use mathlib.Core.Path.{refl, ◌∙◌}
+use Rattle.path.specs.Records.{lent}
+use Rattle.path.proofs.Told.{told-err, told-ok, numbered, once, said-no, said-yes}
+use Rattle.train.proofs.Fields.{handed-located, locate-first, links-there, locate-10, locate-8}
 use Rattle.train.proofs.locate.locate.Goals as goal
 
-pub returns-then-first-ne0 : goal.returns-then-first-ne0
-returns-then-first-ne0 c =
+pub returns-in_err-path_answer : goal.returns-in_err-path_answer
+returns-in_err-path_answer c =
     let a = c.args in
-    let l = columns a.offsets.now a.numbers.now a.grades.now a.curves.now a.speeds.now a.powers.now a.districts.now in
-    locate-first a.state a.path l c.state_finite-finite.ensures (c.from-first.ensures ∙ c.path_answer.ensures) c.if-first-ne0.true c.located_as_before.ensures
+    handed-located a.state _ _ c.from_residual.ensures.1
+    ∙ locate-first a.state a.path (lent a.cols.now) c.state_finite.ensures (told-err c.path_answer.ensures c.in_err-path_answer.was) (numbered _)
 
 pub not_before_path-requires : goal.not_before_path-requires
 not_before_path-requires c =
     let a = c.args in
-    let l = columns a.offsets.now a.numbers.now a.grades.now a.curves.now a.speeds.now a.powers.now a.districts.now in
-    links-there a.state a.path l c.state_finite-finite.ensures (c.from-first.ensures ∙ c.path_answer.ensures) c.if-first-ne0.false
+    links-there a.state a.path (lent a.cols.now) c.state_finite.ensures (told-ok c.path_answer.ensures c.in_ok-path_answer.was) refl
 
-pub returns-then-not-not_before_path : goal.returns-then-not-not_before_path
-returns-then-not-not_before_path c =
+pub returns-in_err-ask : goal.returns-in_err-ask
+returns-in_err-ask c =
     let a = c.args in
-    let l = columns a.offsets.now a.numbers.now a.grades.now a.curves.now a.speeds.now a.powers.now a.districts.now in
-    locate-10 a.state a.path l c.state_finite-finite.ensures (c.from-first.ensures ∙ c.path_answer.ensures) c.if-first-ne0.false c.not_before_path.ensures c.if-not-not_before_path.true c.asked.ensures c.located_as_before-then-not-not_before_path.ensures
+    handed-located a.state _ _ c.from_residual-in_err-ask.ensures.1
+    ∙ locate-10 a.state a.path (lent a.cols.now) c.state_finite.ensures (told-ok c.path_answer.ensures c.in_ok-path_answer.was) refl c.not_before_path.ensures (said-no _ _ c.ask.ensures c.in_err-ask.was) (told-err (once _ _ c.ask.ensures) c.in_err-ask.was)
 
 pub located_among-requires : goal.located_among-requires
 located_among-requires c =
     let a = c.args in
-    let l = columns a.offsets.now a.numbers.now a.grades.now a.curves.now a.speeds.now a.powers.now a.districts.now in
-    links-there a.state a.path l c.state_finite-finite.ensures (c.from-first.ensures ∙ c.path_answer.ensures) c.if-first-ne0.false
+    links-there a.state a.path (lent a.cols.now) c.state_finite.ensures (told-ok c.path_answer.ensures c.in_ok-path_answer.was) refl
 
 pub returns : goal.returns
 returns c =
     let a = c.args in
-    let l = columns a.offsets.now a.numbers.now a.grades.now a.curves.now a.speeds.now a.powers.now a.districts.now in
-    locate-8 a.state a.path l c.state_finite-finite.ensures (c.from-first.ensures ∙ c.path_answer.ensures) c.if-first-ne0.false c.not_before_path.ensures c.if-not-not_before_path.false c.located_among.ensures
+    locate-8 a.state a.path (lent a.cols.now) c.state_finite.ensures (told-ok c.path_answer.ensures c.in_ok-path_answer.was) refl c.not_before_path.ensures (said-yes _ _ c.ask.ensures c.in_ok-ask.was) c.located_among.ensures

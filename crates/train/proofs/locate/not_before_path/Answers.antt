@@ -5,4 +5,4 @@ use Rattle.train.proofs.locate.not_before_path.Goals as goal
 pub returns : goal.returns
 returns c =
     let a = c.args in
-    not-before a.offsets.now a.numbers.now a.n a.s c.requires c.get-first.ensures
+    not-before a.cols.now.offsets.now a.cols.now.numbers.now a.n a.s c.requires c.get-first.ensures
