@@ -1,5 +1,5 @@
 -- Grades and curves, R42 to R46: what each neighbouring pair of elevations or headings adds to the records. path_tpc.rs. Definitions only.
-use Rattle.std.specs.Prelude.{ℕ, ◌-◌, Bool, true, false, ◌&&◌, cond, List, [], ◌∷◌, ◌++◌, ◌≡◌, eqb, set, Float, Option, Some, None}
+use Rattle.std.specs.Prelude.{ℕ, ◌-◌, Bool, ◌&&◌, cond, List, [], ◌∷◌, ◌++◌, ◌≡◌, eqb, set, Float, Option, Some, None}
 use Rattle.std.proofs.Math.ListN as list
 use Rattle.std.specs.Float.Ieee as Ieee
 use Rattle.std.specs.Float.{binary64}
