@@ -10,7 +10,7 @@ use Rattle.answer.specs.declared.Answer.{Answer}
 use Rattle.path.specs.Records.{Columns, Path, path_of, columns_of}
 use Rattle.path.specs.Answers.{left, changed}
 use Rattle.path.specs.Sound.{sound, within_bounds}
-use Rattle.path.proofs.InTurn.{outcome-refused, outcome-changed}
+use Rattle.path.proofs.InTurn.{outcome-changed}
 use Rattle.path.proofs.Clauses.{sound-within}
 use Rattle.path_speeds.proofs.Few.{all-few}
 use Rattle.path_join.specs.Joined.{started, join_all}
@@ -33,12 +33,6 @@ module _ (train : TrainParams) (t : LinkTable) (ns : List ℕ) (p : PathTpc) (c 
 
   -- a is the code's answer to the questions
   module _ {a : Answer} (asked : a ≡ extend_answer train t ns p c) where
-    pub refused : (a.number ≡ 0 → ⊥) → left (record { answer = a; path = p }) c ≡ extend_of train t ns p c
-    unfolding extend_of
-    refused h =
-        ap (λ (b : Answer). left (record { answer = b; path = p }) c) asked
-        ∙ sym (outcome-refused (extend_answer train t ns p c) p c after (λ k. h (ap (λ (b : Answer). b.number) asked ∙ k)))
-
     module _ (z : a.number ≡ 0) where
       zero-answer : (extend_answer train t ns p c).number ≡ 0
       zero-answer = ap (λ (b : Answer). b.number) (sym asked) ∙ z

@@ -1,73 +1,61 @@
 // `extend`: links are joined to a path's end.
-ghost use Rattle.std.specs.Prelude.{◌≡◌, true, ◌<◌};
-ghost use Rattle.link.specs.Lists.{every};
-ghost use Rattle.link.specs.Table.{table_of};
-ghost use Rattle.path.specs.Records.{columns, link_points, path_of};
+ghost use Rattle.std.specs.Prelude.{◌≡◌, true, ◌+◌, ◌*◌, ◌≤◌, ◌<◌};
+ghost use Rattle.std.proofs.Math.ListN as list;
+ghost use Rattle.speed.specs.Column.{points, Holds, Leaves};
+ghost use Rattle.link.specs.Lists.{every, up_from};
+ghost use Rattle.link.specs.Table.{table};
+ghost use Rattle.path.specs.Records.{held, lent, Same, link_points, point_at, path_of};
 ghost use Rattle.answer.specs.Answers.{answer};
-ghost use Rattle.path.specs.Answers.{Outcome, left, changed};
-ghost use Rattle.path.specs.Sound.{sound};
-ghost use Rattle.path_speeds.specs.Limits.{sets_of, few_at};
+ghost use Rattle.path.specs.Answers.{left, changed, told};
+ghost use Rattle.path.specs.Sound.{sound, total};
+ghost use Rattle.path_speeds.specs.Limits.{sets_of, few_at, point_few, point_count, lay_links};
 ghost use Rattle.path_join.specs.Joined.{started, join_all};
 ghost use Rattle.path_extend.specs.Extend as spec;
 ghost use Rattle.path_extend.specs.Ready as ready;
 
-use answer::{Answer, Question, Refusal};
+use answer::{Question, Refusal};
 use link::network::Network;
-use link::questions::question5;
+use link::questions::{Numbers, question5};
 use link::train_params::TrainParams;
 use lookup::path_res_coeff::coeff_at;
-use path::columns::PathColumns;
+use path::columns::{PathColumns, PathColumnsMut};
 use path::finite::train_finite;
 use path::lines::Lines;
 use path::link_point::link_point_at;
 use path::links::links_answer;
-use path::path_tpc::{PathAnswer, PathTpc};
+use path::path_tpc::PathTpc;
 use path::questions::path_answer;
-use path::rest::zero_rest;
 use path_join::fit::records_fit;
 use path_join::join::{join_points, join_powers, join_records, start_net, starting_net};
 use path_join::path_end::{PathEnd, sums_question};
 use path_speeds::add_speeds::lay_links;
 use si::Length;
+use speed::speed_column::SpeedColumn;
 
 // Question 5 of the listed links: each follows the one before, the first the path's last link where it has one.
-fn follow_question(
-    offsets: &[f64],
-    numbers: &[u32],
-    n: usize,
-    list: &[u32],
-    links: &[u32],
-) -> Option<usize>
-    ensures { result ≡ spec.followed links.now (link_points n offsets.now numbers.now) list.now }
+fn follow_question(cols: &PathColumns, n: usize, list: &[u32], network: &Network) -> Option<usize>
+    ensures { result ≡ spec.followed network.now.links.now (link_points n cols.now.offsets.now cols.now.numbers.now) list.now }
 {
     if n < 2 {
-        return question5(list, links, None);
+        return question5(list, network.links, None);
     }
-    let last = link_point_at(offsets, numbers, n - 2);
-    question5(list, links, Some(last.link_idx))
+    let last = link_point_at(cols.offsets, cols.numbers, n - 2);
+    question5(list, network.links, Some(last.link_idx))
 }
 
 // Where the path stands when the first listed link is joined.
-fn start_path_end(
-    p: PathTpc,
-    list: &[u32],
-    links: &[u32],
-    elevs: &[f64],
-    offsets: &[f64],
-    grades: &[f64],
-    curves: &[f64],
-) -> PathEnd
+fn start_path_end(p: PathTpc, list: &[u32], cols: &PathColumns, network: &Network) -> PathEnd
     requires link_count_nonzero { 0 < p.link_count }
     requires grade_count_nonzero { 0 < p.grade_count }
     requires curve_count_nonzero { 0 < p.curve_count }
-    ensures { result ≡ ready.start_path_end p links.now elevs.now list.now offsets.now
-        grades.now curves.now }
+    ensures { result ≡ ready.start_path_end p network.now.links.now network.now.elevs.now list.now cols.now.offsets.now
+        cols.now.grades.now cols.now.curves.now }
 {
-    let grade = coeff_at(grades, p.grade_count - 1);
-    let curve = coeff_at(curves, p.curve_count - 1);
-    let net = starting_net(p.grade_count, grade.res_net, list, links, elevs);
+    let grade = coeff_at(cols.grades, p.grade_count - 1);
+    let curve = coeff_at(cols.curves, p.curve_count - 1);
+    let net = starting_net(p.grade_count, grade.res_net, list, network);
     PathEnd {
-        link: Length(column::get(offsets, p.link_count - 1)),
+        link: Length(column::get(cols.offsets, p.link_count - 1)),
         grade: grade.offset,
         grade_net: net,
         curve_net: curve.res_net,
@@ -80,73 +68,17 @@ fn sums_answer(
     own: Length,
     train: TrainParams,
     list: &[u32],
-    offsets: &[f64],
-    numbers: &[u32],
-    grades: &[f64],
-    curves: &[f64],
-    speeds: &[f64],
-    powers: &[f64],
-    districts: &[u32],
-    links: &[u32],
-    lengths: &[f64],
-    sets: &[u32],
-    elevs: &[f64],
-    headings: &[f64],
-    limits: &[f64],
-    codes: &[u32],
-    values: &[f64],
-    link_powers: &[f64],
-    link_districts: &[u32],
+    cols: &PathColumns,
+    network: &Network,
 ) -> Result<(), Refusal>
-    requires districts_value { sound p (columns offsets.now numbers.now grades.now curves.now speeds.now powers.now districts.now) ≡ true }
-    requires list_value { every
-        (few_at train (sets_of
-        (table_of links.now lengths.now sets.now elevs.now headings.now limits.now codes.now values.now link_powers.now link_districts.now)))
-        list.now ≡ true }
-    ensures { answer result ≡ spec.sums_answer train own.0
-        (table_of links.now lengths.now sets.now elevs.now headings.now limits.now codes.now values.now link_powers.now link_districts.now) list.now p
-        (columns offsets.now numbers.now grades.now curves.now speeds.now powers.now districts.now) }
+    requires sound { sound p (lent cols.now) ≡ true }
+    requires list_value { every (few_at train (sets_of (table network.now))) list.now ≡ true }
+    ensures { answer result ≡ spec.sums_answer train own.0 (table network.now) list.now p (lent cols.now) }
 {
-    let start = start_path_end(p, list, links, elevs, offsets, grades, curves);
-    let sums = sums_question(
-        start,
-        list,
-        links,
-        lengths,
-        sets,
-        elevs,
-        headings,
-        limits,
-        codes,
-        values,
-        link_powers,
-        link_districts,
-        own,
-        train,
-    );
+    let start = start_path_end(p, list, cols, network);
+    let sums = sums_question(start, list, network, own, train);
     Question::Results.ask_each(sums)?;
-    let fit = records_fit(
-        p,
-        train,
-        list,
-        offsets,
-        numbers,
-        grades,
-        curves,
-        speeds,
-        powers,
-        districts,
-        links,
-        lengths,
-        sets,
-        elevs,
-        headings,
-        limits,
-        codes,
-        values,
-        link_powers,
-        link_districts,
-    );
+    let fit = records_fit(p, train, list, cols, network);
     Question::Room.ask(fit)
 }
 
@@ -155,84 +87,51 @@ fn extend_answer(
     p: PathTpc,
     train: TrainParams,
     list: &[u32],
-    offsets: &[f64],
-    numbers: &[u32],
-    grades: &[f64],
-    curves: &[f64],
-    speeds: &[f64],
-    powers: &[f64],
-    districts: &[u32],
-    links: &[u32],
-    lengths: &[f64],
-    sets: &[u32],
-    elevs: &[f64],
-    headings: &[f64],
-    limits: &[f64],
-    codes: &[u32],
-    values: &[f64],
-    link_powers: &[f64],
-    link_districts: &[u32],
+    cols: &PathColumns,
+    network: &Network,
 ) -> Result<(), Refusal>
-    ensures { answer result ≡ spec.extend_answer train
-        (table_of links.now lengths.now sets.now elevs.now headings.now limits.now codes.now values.now link_powers.now link_districts.now) list.now p
-        (columns offsets.now numbers.now grades.now curves.now speeds.now powers.now districts.now) }
+    ensures { answer result ≡ spec.extend_answer train (table network.now) list.now p (lent cols.now) }
 {
-    let cols = PathColumns {
-        offsets,
-        numbers,
-        grades,
-        curves,
-        speeds,
-        powers,
-        districts,
-    };
-    path_answer(p, train_finite(train), &cols)?;
+    path_answer(p, train_finite(train), cols)?;
     let closed = p.is_finished;
     Question::Open.ask(!closed)?;
-    let network = Network {
-        links,
-        lengths,
-        sets,
-        elevs,
-        headings,
-        limits,
-        codes,
-        values,
-        powers: link_powers,
-        districts: link_districts,
+    let follows = follow_question(cols, p.link_count, list, network);
+    links_answer(&Numbers::Listed(list), follows, network, train.train_type)?;
+    sums_answer(p, train.length, train, list, cols, network)
+}
+
+// The limits of `count` link points from `first` on, laid on the n points of a column; their count afterwards.
+fn join_limits(
+    speeds: &mut [f64],
+    n: usize,
+    offsets: &[f64],
+    numbers: &[u32],
+    first: usize,
+    count: usize,
+    network: &Network,
+    train: TrainParams,
+) -> usize
+    requires n_nonzero { 0 < n }
+    requires count_bound { first + count ≤ 1025 }
+    requires count_value { every (point_few train (sets_of (table network.now)))
+        (up_from (point_at offsets.now numbers.now) first count) ≡ true }
+    requires room { 2 *
+        (n + 2 * total (point_count train (sets_of (table network.now))) (up_from (point_at offsets.now numbers.now) first count))
+        ≤ list.length speeds.old }
+    requires holds { Holds speeds.old (points n speeds.old) }
+    ensures { Leaves speeds.new result
+        (lay_links train train.length.0 (sets_of (table network.now)) (points n speeds.old)
+        (up_from (point_at offsets.now numbers.now) first count)) }
+{
+    let mut laid = SpeedColumn {
+        col: &mut *speeds,
+        count: n,
     };
-    links_answer(
-        list,
-        false,
-        list.len(),
-        follow_question(offsets, numbers, p.link_count, list, links),
-        &network,
-        train.train_type,
-    )?;
     let own = train.length;
-    sums_answer(
-        p,
-        own,
-        train,
-        list,
-        offsets,
-        numbers,
-        grades,
-        curves,
-        speeds,
-        powers,
-        districts,
-        links,
-        lengths,
-        sets,
-        elevs,
-        headings,
-        limits,
-        codes,
-        values,
-        link_powers,
-        link_districts,
-    )
+    lay_links(
+        &mut laid, offsets, numbers, first, count, network, own, train,
+    );
+    laid.count
 }
 
 // The listed links joined to a path in columns with zeros past the counts.
@@ -240,101 +139,61 @@ fn joined(
     p: PathTpc,
     train: TrainParams,
     list: &[u32],
-    offsets: &mut [f64],
-    numbers: &mut [u32],
-    grades: &mut [f64],
-    curves: &mut [f64],
-    speeds: &mut [f64],
-    powers: &mut [f64],
-    districts: &mut [u32],
-    links: &[u32],
-    lengths: &[f64],
-    sets: &[u32],
-    elevs: &[f64],
-    headings: &[f64],
-    limits: &[f64],
-    codes: &[u32],
-    values: &[f64],
-    link_powers: &[f64],
-    link_districts: &[u32],
+    cols: &mut PathColumnsMut,
+    network: &Network,
 ) -> PathTpc
-    requires districts_value { sound p (columns offsets.old numbers.old grades.old curves.old speeds.old powers.old districts.old) ≡ true }
-    requires ready { ready.Ready train
-        (table_of links.now lengths.now sets.now elevs.now headings.now limits.now codes.now values.now link_powers.now link_districts.now) list.now p
-        (columns offsets.old numbers.old grades.old curves.old speeds.old powers.old districts.old) }
-    ensures { ◌≡◌ {A = Outcome}
-        (left (ready.done_with result) (columns offsets.new numbers.new grades.new curves.new speeds.new powers.new districts.new))
-        (changed
-        (columns offsets.old numbers.old grades.old curves.old speeds.old powers.old districts.old)
-        (join_all train
-        (table_of links.now lengths.now sets.now elevs.now headings.now limits.now codes.now values.now link_powers.now link_districts.now)
-        (started
-        (table_of links.now lengths.now sets.now elevs.now headings.now limits.now codes.now values.now link_powers.now link_districts.now)
-        (path_of p (columns offsets.old numbers.old grades.old curves.old speeds.old powers.old districts.old)) list.now) list.now)) }
+    requires sound { sound p (held cols.old) ≡ true }
+    requires ready { ready.Ready train (table network.now) list.now p (held cols.old) }
+    ensures same { Same cols.old cols.new }
+    ensures outcome { left (ready.done_with result) (held cols.new) ≡ changed (held cols.old)
+        (join_all train (table network.now) (started (table network.now) (path_of p (held cols.old)) list.now) list.now) }
 {
-    let begin = coeff_at(&*grades, p.grade_count - 1).offset;
-    join_points(
-        &mut *offsets,
-        &mut *numbers,
-        p.link_count,
-        list,
-        links,
-        lengths,
-    );
-    let own = train.length;
-    let speed_count = lay_links(
-        &mut *speeds,
+    // Read through `&mut`: a `&` of one field is not covered yet beside the `&mut` of another.
+    let begin = coeff_at(&mut *cols.grades, p.grade_count - 1).offset;
+    let n = p.link_count;
+    join_points(&mut *cols.offsets, &mut *cols.numbers, n, list, network);
+    let speed_count = join_limits(
+        &mut *cols.speeds,
         p.speed_count,
-        &*offsets,
-        &*numbers,
-        p.link_count - 1,
+        &mut *cols.offsets,
+        &mut *cols.numbers,
+        n - 1,
         list.len(),
-        sets,
-        codes,
-        values,
-        limits,
-        own,
+        network,
         train,
     );
-    start_net(&mut *grades, p.grade_count, list, links, elevs);
+    let m = p.grade_count;
+    start_net(&mut *cols.grades, m, list, network);
     let grade_count = join_records(
-        &mut *grades,
-        p.grade_count,
+        &mut *cols.grades,
+        m,
         Lines::Grades,
         begin,
         list,
-        links,
-        lengths,
-        elevs,
-        headings,
+        network,
         train,
     );
+    let m = p.curve_count;
     let curve_count = join_records(
-        &mut *curves,
-        p.curve_count,
+        &mut *cols.curves,
+        m,
         Lines::Curves,
         begin,
         list,
-        links,
-        lengths,
-        elevs,
-        headings,
+        network,
         train,
     );
+    let m = p.power_count;
     let power_count = join_powers(
-        &mut *powers,
-        &mut *districts,
-        p.power_count,
+        &mut *cols.powers,
+        &mut *cols.districts,
+        m,
         begin,
         list,
-        links,
-        lengths,
-        elevs,
-        link_powers,
-        link_districts,
+        network,
     );
     PathTpc {
-        link_count: p.link_count + list.len(),
+        link_count: n + list.len(),
         grade_count,
         curve_count,
         speed_count,
@@ -348,86 +207,13 @@ pub fn extend(
     p: PathTpc,
     train: TrainParams,
     list: &[u32],
-    offsets: &mut [f64],
-    numbers: &mut [u32],
-    grades: &mut [f64],
-    curves: &mut [f64],
-    speeds: &mut [f64],
-    powers: &mut [f64],
-    districts: &mut [u32],
-    links: &[u32],
-    lengths: &[f64],
-    sets: &[u32],
-    elevs: &[f64],
-    headings: &[f64],
-    limits: &[f64],
-    codes: &[u32],
-    values: &[f64],
-    link_powers: &[f64],
-    link_districts: &[u32],
-) -> PathAnswer
-    ensures { ◌≡◌ {A = Outcome}
-        (left result (columns offsets.new numbers.new grades.new curves.new speeds.new powers.new districts.new))
-        (spec.extend_of train
-        (table_of links.now lengths.now sets.now elevs.now headings.now limits.now codes.now values.now link_powers.now link_districts.now) list.now p
-        (columns offsets.old numbers.old grades.old curves.old speeds.old powers.old districts.old)) }
+    cols: &mut PathColumnsMut,
+    network: &Network,
+) -> Result<PathTpc, Refusal>
+    ensures same { Same cols.old cols.new }
+    ensures outcome { left (told p result) (held cols.new) ≡ spec.extend_of train (table network.now) list.now p (held cols.old) }
 {
-    let answer = Answer::from(extend_answer(
-        p,
-        train,
-        list,
-        &*offsets,
-        &*numbers,
-        &*grades,
-        &*curves,
-        &*speeds,
-        &*powers,
-        &*districts,
-        links,
-        lengths,
-        sets,
-        elevs,
-        headings,
-        limits,
-        codes,
-        values,
-        link_powers,
-        link_districts,
-    ));
-    if answer.number != 0 {
-        return PathAnswer { answer, path: p };
-    }
-    zero_rest(
-        p,
-        &mut *offsets,
-        &mut *numbers,
-        &mut *grades,
-        &mut *curves,
-        &mut *speeds,
-        &mut *powers,
-        &mut *districts,
-    );
-    let path = joined(
-        p,
-        train,
-        list,
-        &mut *offsets,
-        &mut *numbers,
-        &mut *grades,
-        &mut *curves,
-        &mut *speeds,
-        &mut *powers,
-        &mut *districts,
-        links,
-        lengths,
-        sets,
-        elevs,
-        headings,
-        limits,
-        codes,
-        values,
-        link_powers,
-        link_districts,
-    );
-    PathAnswer { answer, path }
+    extend_answer(p, train, list, &cols.reading(), network)?;
+    cols.zero_rest(p);
+    Ok(joined(p, train, list, &mut *cols, network))
 }

@@ -1,37 +1,41 @@
 -- `extend`: refused, and then zeros past the counts and the listed links.
-use mathlib.Core.Path.{◌∙◌}
-use Rattle.link.specs.Table.{table_of}
-use Rattle.path.specs.Records.{columns}
-use Rattle.path_extend.proofs.Extended.{refused, within, ready-sound, ready, extended}
+use mathlib.Core.Path.{refl, ap, ◌∙◌}
+use Rattle.link.specs.Table.{table}
+use Rattle.path.specs.Records.{held, path_of}
+use Rattle.path.proofs.Told.{handed-outcome, told-ok}
+use Rattle.path_join.specs.Joined.{started, join_all}
+use Rattle.path_extend.specs.Extend.{extend_answer, extend_of}
+use Rattle.path_extend.proofs.Extended.{within, ready-sound, ready, extended}
 use Rattle.path_extend.proofs.extend.extend.Goals as goal
 
-pub returns-then-answer-ne0 : goal.returns-then-answer-ne0
-returns-then-answer-ne0 c =
+pub returns-in_err-extend_answer-clause-outcome : goal.returns-in_err-extend_answer-clause-outcome
+unfolding extend_of
+returns-in_err-extend_answer-clause-outcome c =
     let a = c.args in
-    let l = columns a.offsets.now a.numbers.now a.grades.now a.curves.now a.speeds.now a.powers.now a.districts.now in
-    let t = table_of a.links.now a.lengths.now a.sets.now a.elevs.now a.headings.now a.limits.now a.codes.now a.values.now a.link_powers.now a.link_districts.now in
+    let l = held a.cols.now in
+    let t = table a.network.now in
     let ns = a.list.now in
-    refused a.train t ns a.p l (c.from-answer.ensures ∙ c.extend_answer.ensures) c.if-answer-ne0.true
+    handed-outcome a.p l (join_all a.train t (started t (path_of a.p l) ns) ns) _ (c.extend_answer.ensures ∙ ap (extend_answer a.train t ns a.p) c.reading.ensures) c.in_err-extend_answer.was c.from_residual.ensures.1
 
 pub zero_rest-requires : goal.zero_rest-requires
 zero_rest-requires c =
     let a = c.args in
-    let l = columns a.offsets.now a.numbers.now a.grades.now a.curves.now a.speeds.now a.powers.now a.districts.now in
-    let t = table_of a.links.now a.lengths.now a.sets.now a.elevs.now a.headings.now a.limits.now a.codes.now a.values.now a.link_powers.now a.link_districts.now in
+    let t = table a.network.now in
     let ns = a.list.now in
-    within a.train t ns a.p l (c.from-answer.ensures ∙ c.extend_answer.ensures) c.if-answer-ne0.false
+    within a.train t ns a.p (held a.cols.now) (told-ok (c.extend_answer.ensures ∙ ap (extend_answer a.train t ns a.p) c.reading.ensures) c.in_ok-extend_answer.was) refl
 
-pub joined-path-requires : goal.joined-path-requires
-joined-path-requires c =
+pub joined-requires : goal.joined-requires
+joined-requires c =
     let a = c.args in
-    let l = columns a.offsets.now a.numbers.now a.grades.now a.curves.now a.speeds.now a.powers.now a.districts.now in
-    let t = table_of a.links.now a.lengths.now a.sets.now a.elevs.now a.headings.now a.limits.now a.codes.now a.values.now a.link_powers.now a.link_districts.now in
-    let ns = a.list.now in record { districts_value = ready-sound a.train t ns a.p l (c.from-answer.ensures ∙ c.extend_answer.ensures) c.if-answer-ne0.false c.zero_rest.ensures; ready = ready a.train t ns a.p l (c.from-answer.ensures ∙ c.extend_answer.ensures) c.if-answer-ne0.false c.zero_rest.ensures }
-
-pub returns : goal.returns
-returns c =
-    let a = c.args in
-    let l = columns a.offsets.now a.numbers.now a.grades.now a.curves.now a.speeds.now a.powers.now a.districts.now in
-    let t = table_of a.links.now a.lengths.now a.sets.now a.elevs.now a.headings.now a.limits.now a.codes.now a.values.now a.link_powers.now a.link_districts.now in
+    let l = held a.cols.now in
+    let t = table a.network.now in
     let ns = a.list.now in
-    extended a.train t ns a.p l (c.from-answer.ensures ∙ c.extend_answer.ensures) c.if-answer-ne0.false c.zero_rest.ensures c.joined-path.ensures
+    let asked = told-ok (c.extend_answer.ensures ∙ ap (extend_answer a.train t ns a.p) c.reading.ensures) c.in_ok-extend_answer.was in
+    record { sound = ready-sound a.train t ns a.p l asked refl c.zero_rest.ensures.columns; ready = ready a.train t ns a.p l asked refl c.zero_rest.ensures.columns }
+
+pub returns-clause-outcome : goal.returns-clause-outcome
+returns-clause-outcome c =
+    let a = c.args in
+    let t = table a.network.now in
+    let ns = a.list.now in
+    extended a.train t ns a.p (held a.cols.now) (told-ok (c.extend_answer.ensures ∙ ap (extend_answer a.train t ns a.p) c.reading.ensures) c.in_ok-extend_answer.was) refl c.zero_rest.ensures.columns c.joined.ensures.outcome

@@ -4,9 +4,9 @@ use Prim.Native.Nat.{ℕ}
 use mathlib.Core.Path.{refl, sym, ap, ap₂, ◌∙◌}
 use mathlib.Core.Bool.{Bool}
 use mathlib.Core.List.{List}
-use Rattle.link.specs.Table.{table_of}
+use Rattle.link.specs.Table.{table}
 use Rattle.link.proofs.Known.{numbers-plain}
-use Rattle.path.specs.Records.{columns}
+use Rattle.path.specs.Records.{lent}
 use Rattle.path.specs.Answers.{ask, links_answer}
 use Rattle.path.specs.Sound.{path_answer}
 use Rattle.path_speeds.proofs.Few.{all-few}
@@ -17,38 +17,38 @@ use Rattle.path_extend.proofs.extend.extend_answer.Goals as goal
 pub returns-in_err-path_answer : goal.returns-in_err-path_answer
 returns-in_err-path_answer c =
     let a = c.args in
-    let l = columns a.offsets.now a.numbers.now a.grades.now a.curves.now a.speeds.now a.powers.now a.districts.now in
-    let t = table_of a.links.now a.lengths.now a.sets.now a.elevs.now a.headings.now a.limits.now a.codes.now a.values.now a.link_powers.now a.link_districts.now in
+    let l = lent a.cols.now in
+    let t = table a.network.now in
     let ns = a.list.now in
     handed-on _ _ c.from_residual.ensures.1 ∙ sym (extend-first a.train t ns a.p l (told-err (c.path_answer.ensures ∙ ap (λ (b : Bool). path_answer b a.p l) c.train_finite.ensures) c.in_err-path_answer.was) (numbered _))
 
 pub returns-in_err-ask : goal.returns-in_err-ask
 returns-in_err-ask c =
     let a = c.args in
-    let l = columns a.offsets.now a.numbers.now a.grades.now a.curves.now a.speeds.now a.powers.now a.districts.now in
-    let t = table_of a.links.now a.lengths.now a.sets.now a.elevs.now a.headings.now a.limits.now a.codes.now a.values.now a.link_powers.now a.link_districts.now in
+    let l = lent a.cols.now in
+    let t = table a.network.now in
     let ns = a.list.now in
     handed-on _ _ c.from_residual-in_err-ask.ensures.1 ∙ told-err (once _ _ c.ask.ensures) c.in_err-ask.was ∙ ap (ask 3) (said-no _ _ c.ask.ensures c.in_err-ask.was) ∙ sym (extend-3 a.train t ns a.p l (told-ok (c.path_answer.ensures ∙ ap (λ (b : Bool). path_answer b a.p l) c.train_finite.ensures) c.in_ok-path_answer.was) refl (said-no _ _ c.ask.ensures c.in_err-ask.was))
 
 pub returns-in_err-links_answer : goal.returns-in_err-links_answer
 returns-in_err-links_answer c =
     let a = c.args in
-    let l = columns a.offsets.now a.numbers.now a.grades.now a.curves.now a.speeds.now a.powers.now a.districts.now in
-    let t = table_of a.links.now a.lengths.now a.sets.now a.elevs.now a.headings.now a.limits.now a.codes.now a.values.now a.link_powers.now a.link_districts.now in
+    let l = lent a.cols.now in
+    let t = table a.network.now in
     let ns = a.list.now in
-    handed-on _ _ c.from_residual-in_err-links_answer.ensures.1 ∙ sym (extend-named a.train t ns a.p l (told-ok (c.path_answer.ensures ∙ ap (λ (b : Bool). path_answer b a.p l) c.train_finite.ensures) c.in_ok-path_answer.was) refl (said-yes _ _ c.ask.ensures c.in_ok-ask.was) (told-err (c.links_answer.ensures ∙ ap₂ (λ (j : Option ℕ) (ms : List ℕ). links_answer t a.train.train_type j ms) c.follow_question.ensures (numbers-plain ns)) c.in_err-links_answer.was) (numbered _))
+    handed-on _ _ c.from_residual-in_err-links_answer.ensures.1 ∙ sym (extend-named a.train t ns a.p l (told-ok (c.path_answer.ensures ∙ ap (λ (b : Bool). path_answer b a.p l) c.train_finite.ensures) c.in_ok-path_answer.was) refl (said-yes _ _ c.ask.ensures c.in_ok-ask.was) (told-err (c.links_answer.ensures ∙ ap₂ (λ (j : Option ℕ) (ms : List ℕ). links_answer t a.train.train_type j ms) c.follow_question-follows.ensures (numbers-plain ns)) c.in_err-links_answer.was) (numbered _))
 
 pub sums_answer-requires : goal.sums_answer-requires
 sums_answer-requires c =
     let a = c.args in
-    let l = columns a.offsets.now a.numbers.now a.grades.now a.curves.now a.speeds.now a.powers.now a.districts.now in
-    let t = table_of a.links.now a.lengths.now a.sets.now a.elevs.now a.headings.now a.limits.now a.codes.now a.values.now a.link_powers.now a.link_districts.now in
-    let ns = a.list.now in record { districts_value = known-sound a.train t ns a.p l (told-ok (c.path_answer.ensures ∙ ap (λ (b : Bool). path_answer b a.p l) c.train_finite.ensures) c.in_ok-path_answer.was) refl; list_value = all-few a.train t ns (named-formed a.train t ns a.p l (told-ok (c.path_answer.ensures ∙ ap (λ (b : Bool). path_answer b a.p l) c.train_finite.ensures) c.in_ok-path_answer.was) refl (said-yes _ _ c.ask.ensures c.in_ok-ask.was) (told-ok (c.links_answer.ensures ∙ ap₂ (λ (j : Option ℕ) (ms : List ℕ). links_answer t a.train.train_type j ms) c.follow_question.ensures (numbers-plain ns)) c.in_ok-links_answer.was) refl) }
+    let l = lent a.cols.now in
+    let t = table a.network.now in
+    let ns = a.list.now in record { sound = known-sound a.train t ns a.p l (told-ok (c.path_answer.ensures ∙ ap (λ (b : Bool). path_answer b a.p l) c.train_finite.ensures) c.in_ok-path_answer.was) refl; list_value = all-few a.train t ns (named-formed a.train t ns a.p l (told-ok (c.path_answer.ensures ∙ ap (λ (b : Bool). path_answer b a.p l) c.train_finite.ensures) c.in_ok-path_answer.was) refl (said-yes _ _ c.ask.ensures c.in_ok-ask.was) (told-ok (c.links_answer.ensures ∙ ap₂ (λ (j : Option ℕ) (ms : List ℕ). links_answer t a.train.train_type j ms) c.follow_question-follows.ensures (numbers-plain ns)) c.in_ok-links_answer.was) refl) }
 
 pub returns : goal.returns
 returns c =
     let a = c.args in
-    let l = columns a.offsets.now a.numbers.now a.grades.now a.curves.now a.speeds.now a.powers.now a.districts.now in
-    let t = table_of a.links.now a.lengths.now a.sets.now a.elevs.now a.headings.now a.limits.now a.codes.now a.values.now a.link_powers.now a.link_districts.now in
+    let l = lent a.cols.now in
+    let t = table a.network.now in
     let ns = a.list.now in
-    c.sums_answer.ensures ∙ sym (extend-sums a.train t ns a.p l (told-ok (c.path_answer.ensures ∙ ap (λ (b : Bool). path_answer b a.p l) c.train_finite.ensures) c.in_ok-path_answer.was) refl (said-yes _ _ c.ask.ensures c.in_ok-ask.was) (told-ok (c.links_answer.ensures ∙ ap₂ (λ (j : Option ℕ) (ms : List ℕ). links_answer t a.train.train_type j ms) c.follow_question.ensures (numbers-plain ns)) c.in_ok-links_answer.was) refl)
+    c.sums_answer.ensures ∙ sym (extend-sums a.train t ns a.p l (told-ok (c.path_answer.ensures ∙ ap (λ (b : Bool). path_answer b a.p l) c.train_finite.ensures) c.in_ok-path_answer.was) refl (said-yes _ _ c.ask.ensures c.in_ok-ask.was) (told-ok (c.links_answer.ensures ∙ ap₂ (λ (j : Option ℕ) (ms : List ℕ). links_answer t a.train.train_type j ms) c.follow_question-follows.ensures (numbers-plain ns)) c.in_ok-links_answer.was) refl)

@@ -18,5 +18,5 @@ returns c =
     same-path-end
     c.get.ensures
     (ap stands_at grade)
-    (c.starting_net-net.ensures ∙ ap (λ (x : PathResCoeff). starting_net a.links.now a.elevs.now a.p.grade_count (net_of x) a.list.now) grade)
+    (c.starting_net-net.ensures ∙ ap (λ (x : PathResCoeff). starting_net a.network.now.links.now a.network.now.elevs.now a.p.grade_count (net_of x) a.list.now) grade)
     (ap net_of c.coeff_at-curve.ensures)
