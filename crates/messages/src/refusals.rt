@@ -11,12 +11,13 @@ use path::path_tpc::PathTpc;
 use route::kinds::Call;
 use show::{Rounded, Sink};
 
-// The line of a file whose call was refused: the file's name and text, the line's number and its call.
+// A line of a file that is a call: the file's name and text, the line's number and words, and the call.
 #[derive(Clone, Copy)]
 pub struct CallLine<'a> {
     pub name: &'a [u8],
     pub text: &'a [u8],
     pub number: usize,
+    pub words: &'a [u8],
     pub call: Call,
 }
 

@@ -1,18 +1,20 @@
 // The calls that read the path, as lines of a route.
-use answer::Answer;
+use answer::Refusal;
 use link::train_params::TrainParams;
 use lookup::lin_search_hint::Dir;
-use messages::outcomes::outcome;
-use messages::refusals::reading_refused;
+use messages::outcomes::Refused;
+use messages::refusals::{CallLine, reading_refused};
 use path::columns::PathColumns;
+use path::lines::Lines;
 use path::path_tpc::PathTpc;
-use path_link_records::link_records::link_range;
+use path_link_records::link_records::link_records;
 use path_posted::posted_speed::posted_speed;
-use resistance::strap::{Strap, StrapAnswer, StrapRes};
+use resistance::strap::{Strap, StrapForce};
 use route::fields::{bytes_at, count_at, direction_of, float_at};
 use route::kinds::Call;
-use show::{To, put, put_count, put_real, put_real_in};
+use show::{Rounded, Sink, To};
 use si::{Force, Length};
+use std::fmt;
 use train::set_link_and_offset::with_link_and_offset;
 use train::train_state::TrainState;
 
@@ -30,6 +32,28 @@ pub struct Straps {
     pub curve: Strap,
 }
 
+impl Straps {
+    // The straps behind a drop of so many grades and curves; none where an index would fall below 0.
+    pub fn fixed(self, grades: usize, curves: usize) -> Option<Straps> {
+        let grade = self.grade.fix_cache(grades).ok()?;
+        let curve = self.curve.fix_cache(curves).ok()?;
+        Some(Straps { grade, curve })
+    }
+}
+
+// The resistance of one list, or why there is none.
+#[derive(Clone, Copy)]
+struct Resistance(Result<StrapForce, Refusal>);
+
+impl fmt::Display for Resistance {
+    fn fmt<W: fmt::Write>(&self, f: &mut fmt::Formatter<W>) -> fmt::Result {
+        match self.0 {
+            Ok(there) => write!(f, "done, {} N", Rounded(there.res.0)),
+            Err(refusal) => write!(f, "{}", Refused(refusal)),
+        }
+    }
+}
+
 // A position with its front and its back at these offsets.
 fn position(train: TrainParams, front: f64, back: f64, weight: f64) -> TrainState {
     TrainState {
@@ -44,251 +68,120 @@ fn position(train: TrainParams, front: f64, back: f64, weight: f64) -> TrainStat
 }
 
 // Where the train stands.
-fn locate(out: i32, state: TrainState, p: &PathView) -> Answer {
-    let c = &p.columns;
-    let r = with_link_and_offset(
-        state,
-        p.record,
-        c.offsets,
-        c.numbers,
-        c.grades,
-        c.curves,
-        c.speeds,
-        c.powers,
-        c.districts,
-    );
-    let answer = r.answer;
-    if outcome(out, answer) {
-        let t = r.state;
-        put(out, b": front in link ");
-        put_count(out, t.link_idx_front as usize);
-        put(out, b" at ");
-        put_real(out, t.offset_in_link.0);
-        put(out, b", back in link ");
-        put_count(out, t.link_idx_back as usize);
-        put(out, b"\n");
-    }
-    answer
+fn locate(out: Sink, state: TrainState, p: &PathView) -> Result<(), Refusal> {
+    let t = with_link_and_offset(state, p.record, &p.columns)?;
+    let front = t.link_idx_front;
+    let back = t.link_idx_back;
+    let at = Rounded(t.offset_in_link.0);
+    write!(out, "done: front in link {front} at {at}, back in link {back}\n");
+    Ok(())
 }
 
 // The speed posted at an offset.
-fn posted(out: i32, x: f64, p: &PathView) -> Answer {
-    let c = &p.columns;
-    let r = posted_speed(
-        p.record,
-        Length(x),
-        c.offsets,
-        c.numbers,
-        c.grades,
-        c.curves,
-        c.speeds,
-        c.powers,
-        c.districts,
-    );
-    let answer = r.answer;
-    if outcome(out, answer) {
-        put(out, b": ");
-        put_real(out, r.speed.0);
-        put(out, b"\n");
-    }
-    answer
+fn posted(out: Sink, x: f64, p: &PathView) -> Result<(), Refusal> {
+    let speed = posted_speed(p.record, Length(x), &p.columns)?;
+    write!(out, "done: {}\n", Rounded(speed.0));
+    Ok(())
 }
 
-// The records from..to of a column: offset, thousandths, value.
-fn records(out: i32, col: &[f64], from: usize, to: usize) {
-    for i in from..to {
-        let g = column::record_at::<column::Three>(col, i);
-        put_real_in(out, g.0, 12);
-        put_real_in(out, g.1 * 1000.0, 12);
-        put(out, b" per mille");
-        put_real_in(out, g.2, 12);
-        put(out, b"\n");
+// The grade or curve records of link k: offset, thousandths, value.
+fn list_records(out: Sink, lines: Lines, k: usize, p: &PathView) -> Result<(), Refusal> {
+    let records = link_records(lines, p.record, k, &p.columns)?;
+    write!(out, "done\n");
+    for g in records.chunks_exact(3) {
+        let offset = Rounded(g[0]);
+        let per_mille = Rounded(g[1] * 1000.0);
+        write!(out, "{offset:12}{per_mille:12} per mille{:12}\n", Rounded(g[2]));
     }
+    Ok(())
 }
 
 // The power limits of a path: from, to, watts, district.
-pub fn list_powers(out: i32, p: &PathView) {
+pub fn list_powers(out: Sink, p: &PathView) {
     let n = p.record.power_count;
-    put_count(out, n);
-    put(out, b" power limits\n");
+    write!(out, "{n} power limits\n");
     for i in 0..n {
         let w = column::record_at::<column::Three>(p.columns.powers, i);
-        put_real_in(out, w.0, 12);
-        put_real_in(out, w.1, 12);
-        put_real_in(out, w.2, 14);
-        put(out, b" W  district ");
-        put_count(out, column::get(p.columns.districts, i) as usize);
-        put(out, b"\n");
+        let district = column::get(p.columns.districts, i);
+        write!(
+            out,
+            "{:12}{:12}{:14} W  district {district}\n",
+            Rounded(w.0),
+            Rounded(w.1),
+            Rounded(w.2)
+        );
     }
 }
 
-// The grade or curve records of link k.
-fn list_records(out: i32, k: usize, wants_curves: bool, p: &PathView) -> Answer {
-    let c = &p.columns;
-    let r = link_range(
-        p.record,
-        k,
-        wants_curves,
-        c.offsets,
-        c.numbers,
-        c.grades,
-        c.curves,
-        c.speeds,
-        c.powers,
-        c.districts,
-    );
-    let answer = r.answer;
-    let range = r.range;
-    if outcome(out, answer) {
-        put(out, b"\n");
-        let first = range.from / 3;
-        let col = if wants_curves { c.curves } else { c.grades };
-        records(out, col, first, first + range.len / 3);
-    }
-    answer
-}
-
-// A strap that stands in a list: a new one where there is none yet.
-fn standing(
-    strap: Option<Strap>,
-    col: &[f64],
-    n: usize,
-    state: TrainState,
-) -> Result<Strap, Answer> {
-    if let Some(strap) = strap {
-        return Ok(strap);
-    }
-    match Strap::new(col, n, state) {
-        Ok(strap) => Ok(strap),
-        Err(e) => Err(Answer::from(e)),
-    }
-}
-
-// The resistance of one list: its answer printed; the strap afterwards.
-fn one_resistance(
-    out: i32,
-    name: &[u8],
+// The resistance of one list, by a strap that stands in it or a new one.
+fn resisted(
     strap: Option<Strap>,
     col: &[f64],
     n: usize,
     state: TrainState,
     dir: Dir,
-) -> Result<Strap, Answer> {
-    put(out, name);
-    let placed = match standing(strap, col, n, state) {
-        Ok(placed) => placed,
-        Err(answer) => {
-            outcome(out, answer);
-            return Err(answer);
-        }
+) -> Result<StrapForce, Refusal> {
+    let placed = match strap {
+        Some(strap) => strap,
+        None => Strap::new(col, n, state)?,
     };
-    let r = StrapRes::told(placed, placed.calc_res(col, n, state, dir));
-    let answer = r.answer;
-    if !outcome(out, answer) {
-        return Err(answer);
-    }
-    put(out, b", ");
-    put_real(out, r.res.0);
-    put(out, b" N\n");
-    Ok(r.strap)
+    placed.calc_res(col, n, state, dir)
 }
 
 // Grade and curve resistance: the straps behind them; none where either is refused.
 pub fn resistance_line(
     to: To,
-    name: &[u8],
-    line: usize,
-    text: &[u8],
-    at: usize,
+    line: &CallLine,
     train: TrainParams,
     s: Option<Straps>,
     p: &PathView,
 ) -> Option<Straps> {
-    let dir = direction_of(bytes_at(text, at, 1)).unwrap_or(Dir::Unk);
-    let x = float_at(text, at, 2);
-    let state = position(train, x, float_at(text, at, 3), float_at(text, at, 4));
-    let out = to.out;
+    let words = line.words;
+    let dir = direction_of(bytes_at(words, 0, 1)).unwrap_or(Dir::Unk);
+    let x = float_at(words, 0, 2);
+    let state = position(train, x, float_at(words, 0, 3), float_at(words, 0, 4));
     let c = &p.columns;
     let n = p.record.grade_count;
-    let grade = one_resistance(out, b"grade ", s.map(|s| s.grade), c.grades, n, state, dir);
-    put(out, b"  ");
+    let grade = resisted(s.map(|s| s.grade), c.grades, n, state, dir);
     let n = p.record.curve_count;
-    let curve = one_resistance(out, b"curve ", s.map(|s| s.curve), c.curves, n, state, dir);
-    let both = grade.and_then(|grade| curve.map(|curve| Straps { grade, curve }));
-    if let Err(answer) = both {
-        reading_refused(
-            to.err,
-            name,
-            line,
-            Call::Resistance,
-            answer,
-            x,
-            p.record,
-            c.offsets,
-        );
+    let curve = resisted(s.map(|s| s.curve), c.curves, n, state, dir);
+    write!(
+        to.out,
+        "grade {}\n  curve {}\n",
+        Resistance(grade),
+        Resistance(curve)
+    );
+    let both = grade.and_then(|grade| {
+        curve.map(|curve| Straps {
+            grade: grade.strap,
+            curve: curve.strap,
+        })
+    });
+    if let Err(refusal) = both {
+        reading_refused(to.err, line, refusal, x, p.record, c.offsets);
     }
     both.ok()
 }
 
-// The straps behind a drop of so many grades and curves; none where an index would fall below 0.
-pub fn fixed(s: Straps, grades: usize, curves: usize) -> Option<Straps> {
-    let g = StrapAnswer::told(s.grade, s.grade.fix_cache(grades));
-    let c = StrapAnswer::told(s.curve, s.curve.fix_cache(curves));
-    let of_grade = g.answer;
-    let of_curve = c.answer;
-    if (of_grade.number == 0) & (of_curve.number == 0) {
-        return Some(Straps {
-            grade: g.strap,
-            curve: c.strap,
-        });
-    }
-    None
-}
-
-// The call of the line at `at`: locate, posted, grades or curves.
-fn called(
-    out: i32,
-    text: &[u8],
-    at: usize,
-    kind: Call,
-    train: TrainParams,
-    p: &PathView,
-) -> Answer {
-    match kind {
-        Call::Locate => {
-            let state = position(train, float_at(text, at, 1), float_at(text, at, 2), 0.0);
-            locate(out, state, p)
-        }
-        Call::Posted => posted(out, float_at(text, at, 1), p),
-        _ => list_records(out, count_at(text, at, 1) as usize, kind == Call::Curves, p),
+// The call of a line: locate, posted, grades or curves.
+fn called(out: Sink, line: &CallLine, train: TrainParams, p: &PathView) -> Result<(), Refusal> {
+    let words = line.words;
+    let x = float_at(words, 0, 1);
+    match line.call {
+        Call::Locate => locate(out, position(train, x, float_at(words, 0, 2), 0.0), p),
+        Call::Posted => posted(out, x, p),
+        Call::Curves => list_records(out, Lines::Curves, count_at(words, 0, 1) as usize, p),
+        _ => list_records(out, Lines::Grades, count_at(words, 0, 1) as usize, p),
     }
 }
 
 // The same, a refusal told with its reason; whether it is done.
-pub fn read_line(
-    to: To,
-    name: &[u8],
-    line: usize,
-    text: &[u8],
-    at: usize,
-    kind: Call,
-    train: TrainParams,
-    p: &PathView,
-) -> bool {
-    let answer = called(to.out, text, at, kind, train, p);
-    if answer.number == 0 {
+pub fn read_line(to: To, line: &CallLine, train: TrainParams, p: &PathView) -> bool {
+    let Err(refusal) = called(to.out, line, train, p) else {
         return true;
-    }
-    let x = float_at(text, at, 1);
-    reading_refused(
-        to.err,
-        name,
-        line,
-        kind,
-        answer,
-        x,
-        p.record,
-        p.columns.offsets,
-    );
+    };
+    write!(to.out, "{}\n", Refused(refusal));
+    let x = float_at(line.words, 0, 1);
+    reading_refused(to.err, line, refusal, x, p.record, p.columns.offsets);
     false
 }
