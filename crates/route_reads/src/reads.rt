@@ -73,7 +73,10 @@ fn locate(out: Sink, state: TrainState, p: &PathView) -> Result<(), Refusal> {
     let front = t.link_idx_front;
     let back = t.link_idx_back;
     let at = Rounded(t.offset_in_link.0);
-    write!(out, "done: front in link {front} at {at}, back in link {back}\n");
+    write!(
+        out,
+        "done: front in link {front} at {at}, back in link {back}\n"
+    );
     Ok(())
 }
 
@@ -91,7 +94,11 @@ fn list_records(out: Sink, lines: Lines, k: usize, p: &PathView) -> Result<(), R
     for g in records.chunks_exact(3) {
         let offset = Rounded(g[0]);
         let per_mille = Rounded(g[1] * 1000.0);
-        write!(out, "{offset:12}{per_mille:12} per mille{:12}\n", Rounded(g[2]));
+        write!(
+            out,
+            "{offset:12}{per_mille:12} per mille{:12}\n",
+            Rounded(g[2])
+        );
     }
     Ok(())
 }
