@@ -2,10 +2,11 @@
 use Rattle.std.specs.Prelude.{Option}
 use Prim.Native.Nat.{ℕ, ◌-◌, ◌*◌, ◌≤◌, ◌<◌}
 use mathlib.Core.Path.{◌≡◌, refl, sym, ap, ap₂, ◌∙◌}
-use mathlib.Core.Bool.{true, false, not}
+use mathlib.Core.Bool.{Bool, true, false, not, ◌&&◌}
 use mathlib.Core.List.{List, [], ◌∷◌, map}
-use lib.Dec.{eqb}
-use borrow.Author.Tests.{lt-ltb, le-ltb}
+use lib.Dec.{eqb, ltb}
+use Rattle.std.proofs.Common.{ltb-false}
+use Rattle.std.proofs.lemmas.List.{get_or_past}
 use lib.ListN.{length, get_or, length-map}
 use lib.Ieee.{Float}
 use Rattle.ieee.specs.Number.{+0}
@@ -31,14 +32,14 @@ use Rattle.path.proofs.Numbers.{present-numbers}
 use Rattle.path_reindex.proofs.Fours.{renumbered-fours}
 
 -- ---- question 4 of one number
-module _ (new : List ℕ) (n : ℕ) where
-  pub in_list : n < length new → renumbers new n ≡ not (eqb (get_or new n 0) 0)
-  unfolding renumbers
-  in_list h = rw (lt-ltb n (length new) h)
-
-  pub past-list : length new ≤ n → renumbers new n ≡ false
-  unfolding renumbers
-  past-list h = rw (le-ltb n (length new) h)
+-- past the list the number is 0
+pub has-number : (new : List ℕ) (n : ℕ) → renumbers new n ≡ not (eqb (get_or new n 0) 0)
+unfolding renumbers
+has-number new n = go (ltb n (length new)) refl
+  where
+    go : (b : Bool) → ltb n (length new) ≡ b → (b && not (eqb (get_or new n 0) 0)) ≡ not (eqb (get_or new n 0) 0)
+    go true e = refl
+    go false e = rw (get_or_past new n 0 (ltb-false n (length new) e))
 
 -- ---- as many points, at their offsets
 same-offsets-from : (last : ℕ) (new : List ℕ) (p : LinkPoint) (ps : List LinkPoint) → map offset_of (renumbered_from last new p ps) ≡ offset_of p ∷ map offset_of ps

@@ -11,7 +11,7 @@ ghost use Rattle.path_reindex.specs.Fours as fours;
 
 use answer::{Question, Refusal};
 use column::{Four, get, put_record, record_at};
-use link::questions::number_at;
+use link::questions::point_number;
 use path::columns::{PathColumns, PathColumnsMut};
 use path::path_tpc::PathTpc;
 use path::questions::path_answer;
@@ -20,23 +20,14 @@ use path::questions::path_answer;
 fn renumbers(new: &[u32], n: u32) -> bool
     ensures { result ≡ spec.renumbers new.now n }
 {
-    let i = n as usize;
-    if i < new.len() {
-        return new[i] != 0;
-    }
-    false
+    get(new, n as usize) != 0
 }
 
 // Question 4 of the first `count` link points.
 fn renumber_question(numbers: &[u32], count: usize, new: &[u32]) -> Option<usize>
     ensures { result ≡ first_no (map (spec.renumbers new.now) (questions.numbers true numbers.now count)) }
 {
-    for k in 0..count {
-        if !renumbers(new, number_at(numbers, true, k)) {
-            return Some(k);
-        }
-    }
-    None
+    (0..count).find(|&k| !renumbers(new, point_number(numbers, k)))
 }
 
 // Questions 1, 2 and 4.

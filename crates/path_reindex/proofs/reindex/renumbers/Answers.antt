@@ -1,10 +1,10 @@
--- `renumbers`: a number that the list has, and one past it.
-use mathlib.Core.Path.{sym}
-use Rattle.path_reindex.proofs.Renumbered.{in_list, past-list}
+-- `renumbers`: a number that the list has, or 0 past it.
+use mathlib.Core.Path.{sym, ap, ◌∙◌}
+use Prim.Native.Nat.{ℕ}
+use mathlib.Core.Bool.{not}
+use lib.Dec.{eqb}
+use Rattle.path_reindex.proofs.Renumbered.{has-number}
 use Rattle.path_reindex.proofs.reindex.renumbers.Goals as goal
 
-pub returns-then-i-new : goal.returns-then-i-new
-returns-then-i-new c = sym (in_list c.args.new.now c.args.n c.if-i-new.true)
-
 pub returns : goal.returns
-returns c = sym (past-list c.args.new.now c.args.n c.if-i-new.false)
+returns c = ap (λ (m : ℕ). not (eqb m 0)) c.get.ensures ∙ sym (has-number c.args.new.now c.args.n)
