@@ -4,9 +4,10 @@
 use answer::{Answer, Refusal};
 use lookup::calc_idx::calc_idx;
 use lookup::lin_search_hint::Dir;
+use path::columns::PathColumnsMut;
 use path::link_point::LinkPoint;
 use path::path_tpc::PathTpc;
-use path_clear::clear::clear;
+use path_clear::clear::{ClearAnswer, clear};
 use show::Whole;
 use si::{Length, Velocity};
 use speed::insert_speed::insert_speed;
@@ -159,17 +160,16 @@ fn t_row(rt: &impl Print, name: &str, mut speeds: [f64; 16], n: usize, x: f64) -
         power_count: 0,
         is_finished: false,
     };
-    let r = clear(
-        p,
-        Length(x),
-        &mut offsets,
-        &mut numbers,
-        &mut grades,
-        &mut curves,
-        &mut speeds,
-        &mut powers,
-        &mut districts,
-    );
+    let mut cols = PathColumnsMut {
+        offsets: &mut offsets,
+        numbers: &mut numbers,
+        grades: &mut grades,
+        curves: &mut curves,
+        speeds: &mut speeds,
+        powers: &mut powers,
+        districts: &mut districts,
+    };
+    let r = ClearAnswer::told(p, clear(p, Length(x), &mut cols));
     let left = r.outcome.path;
     let points = Points(first(&speeds, left.speed_count, 2));
     let links = Numbers(first(&offsets, left.link_count, 1));
