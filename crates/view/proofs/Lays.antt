@@ -7,7 +7,8 @@ use Rattle.link.specs.declared.train_params.TrainParams.{TrainParams}
 use Rattle.link.specs.declared.speed_set.SpeedSet.{SpeedSet}
 use Rattle.link.specs.Lists.{up_from}
 use Rattle.link.specs.Train.{length_of, top_speed}
-use Rattle.link.specs.Table.{Limit, limit_at, limits_of, set_at, set_for}
+use Rattle.link.specs.Table.{Limit, limit_at, limits_of, set_at, set_for, set_told}
+use Rattle.link.proofs.Formed.{set_is}
 use Rattle.link.proofs.Loops.{whole-range, range-next, range_none}
 use Rattle.path.specs.declared.link_point.LinkPoint.{LinkPoint}
 use Rattle.path.specs.Records.{offset_of, number_of, point_at}
@@ -23,18 +24,24 @@ module _ (train : TrainParams) (sets codes : List ℕ) (values : List Float) (i 
   unfolding set_taken
   taken few e = sym (ap (λ (b : Bool). cond b (applying_set train sets codes values i) None) e)
 
-  pub taken_none : set_for (set_at sets i) train.train_type ≡ None → None ≡ set_taken train sets codes values i
-  taken_none e = none-applies train sets codes values i e ∙ taken true (ap few_conditions e)
+  -- r is the answer of the look-up
+  module _ {r : Option SpeedSet} (told : set_told r ≡ set_told (set_for (set_at sets i) train.train_type)) where
+    pub taken_none : r ≡ None → None ≡ set_taken train sets codes values i
+    taken_none n =
+        let e = set_is (set_at sets i) train.train_type told n in none-applies train sets codes values i e ∙ taken true (ap few_conditions e)
 
-  module _ (s : SpeedSet) (e : set_for (set_at sets i) train.train_type ≡ Some s) where
-    pub taken-many : 64 < s.params_count → None ≡ set_taken train sets codes values i
-    taken-many h = taken false (ap few_conditions e ∙ lt-leb s.params_count 64 h)
+    module _ (s : SpeedSet) (is : r ≡ Some s) where
+      e : set_for (set_at sets i) train.train_type ≡ Some s
+      e = set_is (set_at sets i) train.train_type told is
 
-    pub few-taken : s.params_count ≤ 64 → few_conditions (set_for (set_at sets i) train.train_type) ≡ true
-    few-taken h = ap few_conditions e ∙ le-leb s.params_count 64 h
+      pub taken-many : 64 < s.params_count → None ≡ set_taken train sets codes values i
+      taken-many h = taken false (ap few_conditions e ∙ lt-leb s.params_count 64 h)
 
-    pub taken-few : s.params_count ≤ 64 → applying_set train sets codes values i ≡ set_taken train sets codes values i
-    taken-few h = taken true (few-taken h)
+      pub few-taken : s.params_count ≤ 64 → few_conditions (set_for (set_at sets i) train.train_type) ≡ true
+      few-taken h = ap few_conditions e ∙ le-leb s.params_count 64 h
+
+      pub taken-few : s.params_count ≤ 64 → applying_set train sets codes values i ≡ set_taken train sets codes values i
+      taken-few h = taken true (few-taken h)
 
 -- ---- limits i to end of a set
 abbrev pub limits_left : Float → Float → Float → ℕ → List Float → ℕ → ℕ → List Laid

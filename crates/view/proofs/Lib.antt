@@ -3,4 +3,3 @@ pub mod HeldBy
 pub mod Laid
 pub mod Lays
 pub mod Lowest
-pub mod Turns

@@ -1,9 +1,25 @@
 // The frame of a picture: where offsets, speeds and heights stand on the page, and the axes with their figures at round steps.
-ghost use Rattle.std.specs.Prelude.{◌≤◌};
+ghost use Rattle.std.specs.Prelude.{◌≡◌, ◌≤◌, cond};
+ghost use Rattle.std.specs.Float.Ieee.{lt};
 
-use crate::figures::{ONE, figure, place, whole};
-use show::say;
+use crate::figures::{Figure, Scaled, whole};
+use show::Sink;
 use speed::speed_limit::lesser;
+use std::fmt::{self, Display};
+
+// A place on the page.
+#[derive(Clone, Copy)]
+pub struct Place {
+    pub x: f64,
+    pub y: f64,
+}
+
+// As a path writes it.
+impl Display for Place {
+    fn fmt<W: fmt::Write>(&self, f: &mut fmt::Formatter<W>) -> fmt::Result {
+        write!(f, "{} {}", Figure(self.x), Figure(self.y))
+    }
+}
 
 // From the lowest height to the highest.
 #[derive(Clone, Copy)]
@@ -50,7 +66,10 @@ impl Frame {
     }
 }
 
-pub fn larger(a: f64, b: f64) -> f64 {
+// b where a is below it, otherwise a; f64::max would answer b for an a that is no number.
+pub fn larger(a: f64, b: f64) -> f64
+    ensures { result ≡ cond (lt a b) b a }
+{
     if a < b { b } else { a }
 }
 
@@ -59,31 +78,20 @@ fn ratio(a: f64, b: f64) -> f64 {
     if 0.0 < b { a / b } else { 0.0 }
 }
 
-// A letter of a path with a place on the page.
-pub fn toward(letter: &[u8], x: f64) {
-    say(letter);
-    place(x);
-}
-
-pub fn point(letter: &[u8], x: f64, y: f64) {
-    toward(letter, x);
-    toward(b" ", y);
-}
-
 // A power of ten.
 #[derive(Clone, Copy)]
 struct Ten {
-    power: usize,
+    power: i32,
     value: f64,
 }
 
 // The largest power of ten from 1 on that is not above x; 1 where x is below 10.
 fn ten_up(x: f64) -> Ten {
     let mut ten = Ten {
-        power: ONE,
+        power: 0,
         value: 1.0,
     };
-    for power in 401..721 {
+    for power in 1..321 {
         let value = ten.value * 10.0;
         if !(value <= x) {
             return ten;
@@ -96,7 +104,7 @@ fn ten_up(x: f64) -> Ten {
 // The largest power of ten up to t that is not above x.
 fn ten_down(t: Ten, x: f64) -> Ten {
     let mut ten = t;
-    for power in (0..t.power).rev() {
+    for power in (-400..t.power).rev() {
         if ten.value <= x {
             return ten;
         }
@@ -125,61 +133,56 @@ impl Digit {
             Digit::Five => 5 * n,
         }
     }
+
+    // x times 1, 2 or 5.
+    fn of(self, x: f64) -> f64 {
+        match self {
+            Digit::One => x,
+            Digit::Two => 2.0 * x,
+            Digit::Five => 5.0 * x,
+        }
+    }
 }
 
 // A round step: 1, 2 or 5 times a power of ten, and its size.
 #[derive(Clone, Copy)]
 pub struct Step {
     pub digit: Digit,
-    pub power: usize,
+    pub power: i32,
     pub each: f64,
+}
+
+impl Step {
+    // k steps in figures.
+    fn figures(self, k: f64) -> Scaled {
+        Scaled {
+            digits: self.digit.times(whole(k)),
+            power: self.power,
+        }
+    }
 }
 
 // The smallest round step that is not below `least`; 1 where that is not above 0.
 pub fn round_step(least: f64) -> Step {
-    let digit = Digit::One;
     if !((0.0 < least) & ieee::is_finite(least)) {
         return Step {
-            digit,
-            power: ONE,
+            digit: Digit::One,
+            power: 0,
             each: 1.0,
         };
     }
-    let ten = ten_down(ten_up(least), least);
-    let power = ten.power;
-    if least <= ten.value {
-        return Step {
-            digit,
-            power,
-            each: ten.value,
-        };
-    }
-    if least <= 2.0 * ten.value {
-        return Step {
-            digit: Digit::Two,
-            power,
-            each: 2.0 * ten.value,
-        };
-    }
-    if least <= 5.0 * ten.value {
-        return Step {
-            digit: Digit::Five,
-            power,
-            each: 5.0 * ten.value,
-        };
+    let Ten { power, value } = ten_down(ten_up(least), least);
+    for digit in [Digit::One, Digit::Two, Digit::Five] {
+        let each = digit.of(value);
+        if least <= each {
+            return Step { digit, power, each };
+        }
     }
     Step {
-        digit,
+        digit: Digit::One,
         power: power.saturating_add(1),
-        each: 10.0 * ten.value,
+        each: 10.0 * value,
     }
-}
-
-// The first whole number that is not below x, where x is not too large for one.
-fn ceiling(x: f64) -> f64 {
-    let size = std::num::nearest_u64_to_f64(whole(x));
-    let cut = if x < 0.0 { -size } else { size };
-    if cut < x { cut + 1.0 } else { cut }
 }
 
 // Offsets across in metres, speeds in m/s at the left, in km/h at the right, heights in metres at the left.
@@ -192,105 +195,108 @@ enum Axis {
 }
 
 // A line of a tick.
-fn line(class: &[u8], x: f64, y: f64, letter: &[u8], to: f64) {
-    say(b"<path class=\"");
-    say(class);
-    say(b"\" d=\"");
-    point(b"M", x, y);
-    toward(letter, to);
-    say(b"\"/>\n");
+fn line(out: Sink, class: &str, from: Place, letter: char, to: f64) {
+    write!(
+        out,
+        "<path class=\"{class}\" d=\"M{from}{letter}{}\"/>\n",
+        Figure(to),
+    );
 }
 
-// A line across the picture at a height on the page, and the beginning of its figure at the left.
-fn grid_line(y: f64) {
-    line(b"grid", 54.0, y, b"H", 1060.0);
-    text(b"end", 50.0, y + 4.0);
+// A text at a place.
+pub fn text<D: Display + Drop>(out: Sink, class: &str, at: Place, words: D) {
+    write!(
+        out,
+        "<text class=\"{class}\" x=\"{}\" y=\"{}\">{words}</text>\n",
+        Figure(at.x),
+        Figure(at.y),
+    );
 }
 
-// The beginning of a text at a place.
-pub fn text(class: &[u8], x: f64, y: f64) {
-    say(b"<text class=\"");
-    say(class);
-    say(b"\" x=\"");
-    place(x);
-    say(b"\" y=\"");
-    place(y);
-    say(b"\">");
-}
-
-// The figure of k steps.
-fn figures(k: f64, s: Step) {
-    if k < 0.0 {
-        say(b"-");
-    }
-    figure(s.digit.times(whole(k)), s.power);
-    say(b"</text>\n");
+// A line across the picture at a height on the page, and its figure at the left.
+fn grid_line<D: Display + Drop>(out: Sink, y: f64, figure: D) {
+    line(out, "grid", Place { x: 54.0, y }, 'H', 1060.0);
+    text(
+        out,
+        "end",
+        Place {
+            x: 50.0,
+            y: y + 4.0,
+        },
+        figure,
+    );
 }
 
 // The tick of k steps.
-fn tick(f: Frame, axis: Axis, k: f64, s: Step) {
+fn tick(out: Sink, f: Frame, axis: Axis, k: f64, s: Step) {
     let v = k * s.each;
+    let sign = if k < 0.0 { "-" } else { "" };
+    let figure = format_args!("{sign}{}", s.figures(k));
     match axis {
         Axis::Distance => {
             let x = f.across(v * f.unit());
-            line(b"tick", x, 376.0, b"V", 382.0);
-            text(b"middle", x, 395.0);
+            line(out, "tick", Place { x, y: 376.0 }, 'V', 382.0);
+            text(out, "middle", Place { x, y: 395.0 }, figure);
         }
-        Axis::Speed => grid_line(f.up(v)),
+        Axis::Speed => grid_line(out, f.up(v), figure),
         Axis::Hourly => {
             let y = f.up(v / 3.6);
-            line(b"tick", 1060.0, y, b"H", 1066.0);
-            text(b"start", 1070.0, y + 4.0);
+            line(out, "tick", Place { x: 1060.0, y }, 'H', 1066.0);
+            text(
+                out,
+                "start",
+                Place {
+                    x: 1070.0,
+                    y: y + 4.0,
+                },
+                figure,
+            );
         }
-        Axis::Height(span) => grid_line(span.level(v)),
+        Axis::Height(span) => grid_line(out, span.level(v), figure),
     }
-    figures(k, s);
 }
 
 // The ticks of an axis from `low` to `high`, at most 20, about as many as asked for.
-fn ticks(f: Frame, axis: Axis, low: f64, high: f64, most: f64) {
+fn ticks(out: Sink, f: Frame, axis: Axis, low: f64, high: f64, most: f64) {
     let s = round_step(high / most - low / most);
     let begin = low / s.each;
     if !(ieee::size(begin) < 100000000000000.0) {
         return;
     }
-    let mut k = ceiling(begin - 0.000001);
+    let mut k = (begin - 0.000001).ceil();
     for _ in 0..20 {
         if !((k - 0.000001) * s.each <= high) {
             return;
         }
-        tick(f, axis, k, s);
-        k = k + 1.0;
+        tick(out, f, axis, k, s);
+        k += 1.0;
     }
 }
 
 // The words beside the axes.
-fn units(f: Frame) {
-    text(b"end", 50.0, 84.0);
-    say(b"m/s</text>\n");
-    text(b"start", 1070.0, 84.0);
-    say(b"km/h</text>\n");
-    text(b"middle", 560.0, 412.0);
-    if f.in_kilometres() {
-        say(b"distance in km</text>\n");
+fn units(out: Sink, f: Frame) {
+    text(out, "end", Place { x: 50.0, y: 84.0 }, "m/s");
+    text(out, "start", Place { x: 1070.0, y: 84.0 }, "km/h");
+    let distance = if f.in_kilometres() {
+        "distance in km"
     } else {
-        say(b"distance in m</text>\n");
-    }
+        "distance in m"
+    };
+    text(out, "middle", Place { x: 560.0, y: 412.0 }, distance);
     if f.heights.is_some() {
-        text(b"start", 60.0, 432.0);
-        say(b"height in m</text>\n");
+        text(out, "start", Place { x: 60.0, y: 432.0 }, "height in m");
     }
 }
 
 // The axes.
-pub fn axes(f: Frame) {
-    ticks(f, Axis::Speed, 0.0, f.reach, 7.0);
-    ticks(f, Axis::Hourly, 0.0, f.reach * 3.6, 7.0);
-    ticks(f, Axis::Distance, 0.0, f.last / f.unit(), 10.0);
-    say(b"<path class=\"axis\" d=\"M60 96V376H1060V96\"/>\n");
+pub fn axes(out: Sink, f: Frame) {
+    ticks(out, f, Axis::Speed, 0.0, f.reach, 7.0);
+    ticks(out, f, Axis::Hourly, 0.0, f.reach * 3.6, 7.0);
+    ticks(out, f, Axis::Distance, 0.0, f.last / f.unit(), 10.0);
+    write!(out, "<path class=\"axis\" d=\"M60 96V376H1060V96\"/>\n");
     if let Some(span) = f.heights {
-        ticks(f, Axis::Height(span), span.low, span.high, 5.0);
-        say(b"<path class=\"axis\" d=\"M60 440V530H1060\"/>\n");
+        ticks(out, f, Axis::Height(span), span.low, span.high, 5.0);
+        write!(out, "<path class=\"axis\" d=\"M60 440V530H1060\"/>\n");
     }
-    units(f);
+    units(out, f);
 }

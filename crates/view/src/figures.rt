@@ -1,152 +1,122 @@
 // Figures of a picture: whole numbers times a power of ten, with no zeros that say nothing.
-ghost use Rattle.std.specs.Prelude.{◌≤◌};
+ghost use Rattle.std.specs.Prelude.{◌-◌, ◌^◌, ◌<◌, ◌≤◌};
 
-use show::{plain, real, say};
-
-// The power that 1 has: powers of ten are counted from 10^-400 on.
-pub const ONE: usize = 400;
+use show::Rounded;
+use std::fmt::{self, Display};
 
 // The whole part of a number's size; 0 from a thousand million million on, and for a NaN.
 pub fn whole(x: f64) -> u64
     ensures { result ≤ 1000000000000000 }
 {
-    let m = ieee::size(x);
-    if m < 1000000000000000.0 {
-        let t = std::num::truncating_f64_to_u64(m);
-        if t < 1000000000000000 {
-            return t;
-        }
+    let n = std::num::saturating_f64_to_u64(ieee::size(x));
+    if n < 1000000000000000 { n } else { 0 }
+}
+
+// How many digits n has.
+pub fn digit_count(n: u64) -> u32
+    ensures one { 1 ≤ result }
+    ensures within { result ≤ 20 }
+    ensures has { n < 10 ^ result }
+    ensures least { 1 < result → 10 ^ (result - 1) ≤ n }
+{
+    match n.checked_ilog10() {
+        Some(power) => power + 1,
+        None => 1,
     }
-    0
 }
 
 // A whole number times a power of ten.
 #[derive(Clone, Copy)]
-struct Stripped {
-    digits: u64,
-    power: usize,
+pub struct Scaled {
+    pub digits: u64,
+    pub power: i32,
 }
 
-// n times a power of ten, with the zeros at the end of n in the power.
-fn strip(n: u64, power: usize) -> Stripped {
-    if n == 0 {
-        return Stripped {
+impl Scaled {
+    // The same with the zeros at the end of its digits in the power.
+    fn stripped(self) -> Scaled {
+        let mut s = self;
+        for _ in 0..20 {
+            if s.digits % 10 != 0 {
+                return s;
+            }
+            s = Scaled {
+                digits: s.digits / 10,
+                power: s.power.saturating_add(1),
+            };
+        }
+        Scaled {
             digits: 0,
-            power: ONE,
-        };
-    }
-    let mut digits = n;
-    for p in power..1000 {
-        if digits % 10 != 0 {
-            return Stripped { digits, power: p };
-        }
-        digits = digits / 10;
-    }
-    Stripped {
-        digits,
-        power: power.max(1000),
-    }
-}
-
-// Digits a to b of a text.
-fn part(digits: &[u8], a: usize, b: usize) {
-    if let Some(part) = digits.get(a..b) {
-        say(part);
-    }
-}
-
-// n zeros.
-fn zeros(n: usize) {
-    for _ in 0..n {
-        say(b"0");
-    }
-}
-
-// The digits with the point behind the first, and the power of ten that the first has.
-fn scientific(digits: &[u8], power: usize) {
-    part(digits, 0, 1);
-    if 1 < digits.len() {
-        say(b".");
-        part(digits, 1, digits.len());
-    }
-    if ONE <= power {
-        say(b"e");
-        plain(power - ONE);
-    } else {
-        say(b"e-");
-        plain(ONE - power);
-    }
-}
-
-// The digits, of which so many are behind the point.
-fn pointed(digits: &[u8], behind: usize) {
-    let k = digits.len();
-    if behind < k {
-        part(digits, 0, k - behind);
-        say(b".");
-        part(digits, k - behind, k);
-    } else {
-        say(b"0.");
-        zeros(behind - k);
-        say(digits);
-    }
-}
-
-// n times a power of ten: in full up to seven digits, or up to six behind the point.
-pub fn figure(n: u64, power: usize) {
-    let f = strip(n, power);
-    let p = f.power;
-    if 1000 < p {
-        return;
-    }
-    let mut text = [0u8; 20];
-    let k = io::decimal(f.digits, &mut text);
-    let digits = &text[..k];
-    if p < ONE {
-        if ONE - p <= 6 {
-            pointed(digits, ONE - p);
-            return;
-        }
-    } else {
-        if k + (p - ONE) <= 7 {
-            say(digits);
-            zeros(p - ONE);
-            return;
+            power: 0,
         }
     }
-    if 0 < k {
-        scientific(digits, p + (k - 1));
+}
+
+// The point stands so many digits from the end of a whole number.
+#[derive(Clone, Copy)]
+struct Pointed {
+    digits: u64,
+    behind: u32,
+}
+
+impl Display for Pointed {
+    fn fmt<W: fmt::Write>(&self, f: &mut fmt::Formatter<W>) -> fmt::Result {
+        let behind = self.behind as usize;
+        let one = 10u64.saturating_pow(self.behind).max(1);
+        match behind {
+            0 => write!(f, "{}", self.digits),
+            _ => write!(f, "{}.{:0behind$}", self.digits / one, self.digits % one),
+        }
     }
 }
 
-// x rounded to so many thousandths, hundredths or tenths: 1000, 100 or 10 of them to one, each of that power of ten.
-fn rounded(x: f64, parts: f64, power: usize) {
-    if x < 0.0 {
-        say(b"-");
+// In full up to seven digits, or up to six behind the point; otherwise with one digit before the point, and the power of ten that it has.
+impl Display for Scaled {
+    fn fmt<W: fmt::Write>(&self, f: &mut fmt::Formatter<W>) -> fmt::Result {
+        let Scaled { digits, power } = self.stripped();
+        let behind = digit_count(digits) - 1;
+        let first = power.saturating_add(behind as i32);
+        match power {
+            -6..=-1 => write!(
+                f,
+                "{}",
+                Pointed {
+                    digits,
+                    behind: power.unsigned_abs()
+                }
+            ),
+            0.. if first < 7 => write!(
+                f,
+                "{}",
+                digits.saturating_mul(10u64.saturating_pow(power.unsigned_abs()))
+            ),
+            _ => write!(f, "{}e{first}", Pointed { digits, behind }),
+        }
     }
-    let m = ieee::size(x);
-    if m < 100000000000.0 {
-        figure(whole(m * parts + 0.5), power);
-    } else {
-        real(m);
+}
+
+// A number to as many places behind the point as its format asks for, two where it asks for none; a large one to three.
+#[derive(Clone, Copy)]
+pub struct Figure(pub f64);
+
+impl Display for Figure {
+    fn fmt<W: fmt::Write>(&self, f: &mut fmt::Formatter<W>) -> fmt::Result {
+        let size = ieee::size(self.0);
+        let sign = if self.0 < 0.0 { "-" } else { "" };
+        if size < 100000000000.0 {
+            let places = f.precision().unwrap_or(2).min(3) as u32;
+            let parts = std::num::nearest_u64_to_f64(10u64.saturating_pow(places));
+            let digits = whole(size * parts + 0.5);
+            write!(
+                f,
+                "{sign}{}",
+                Scaled {
+                    digits,
+                    power: -(places as i32)
+                }
+            )
+        } else {
+            write!(f, "{sign}{}", Rounded(size))
+        }
     }
-}
-
-pub fn thousandths(x: f64) {
-    rounded(x, 1000.0, ONE - 3);
-}
-
-pub fn tenths(x: f64) {
-    rounded(x, 10.0, ONE - 1);
-}
-
-// A place on the page.
-pub fn place(x: f64) {
-    rounded(x, 100.0, ONE - 2);
-}
-
-// How many digits n has.
-pub fn digit_count(n: u64) -> usize {
-    let mut text = [0u8; 20];
-    io::decimal(n, &mut text)
 }

@@ -1,13 +1,15 @@
 // What was joined since `new`, dropped links too: limits laid, link borders and heights.
 ghost use Rattle.std.specs.Prelude.{Some, ◌≡◌, ◌≤◌, [], ◌∷◌, length, take};
 ghost use Rattle.link.specs.Train.{length_of, top_speed};
-ghost use Rattle.link.specs.Table.{limit_of};
-ghost use Rattle.path_speeds.specs.Limits.{speed_sets};
+ghost use Rattle.link.specs.Table.{table, limit_of};
+ghost use Rattle.path_speeds.specs.Limits.{sets_of};
 ghost use Rattle.view.specs.History as spec;
 
 use link::cat_power::speed_limit_at;
+use link::network::Network;
 use link::speed_set::{SpeedSet, set_for};
 use link::train_params::TrainParams;
+use path::columns::PathColumns;
 use path::link_point::{LinkPoint, link_point_at};
 use path_speeds::limits::{applying_set, placed, tail_of};
 use si::Length;
@@ -77,72 +79,55 @@ fn add_limits(
 }
 
 // The set that the limits of link i come from; none where it has more than 64 conditions or they do not hold.
-fn applying(
-    sets: &[u32],
-    codes: &[u32],
-    values: &[f64],
-    i: u32,
-    train: TrainParams,
-) -> Option<SpeedSet>
-    ensures { result ≡ spec.set_taken train sets.now codes.now values.now i }
+fn applying(network: &Network, i: u32, train: TrainParams) -> Option<SpeedSet>
+    ensures { result ≡ spec.set_taken train network.now.sets.now network.now.codes.now network.now.values.now i }
 {
     let number = i as usize;
-    let kind = train.train_type;
-    let Some(s) = set_for(sets, number, kind) else {
-        return None;
-    };
+    let s = set_for(network.sets, number, train.train_type)?;
     if 64 < s.params_count {
         return None;
     }
-    applying_set(sets, codes, values, number, train)
+    applying_set(network.sets, network.codes, network.values, number, train)
 }
 
 // The limits of a link point's link, behind the first n.
 fn add_link(
     p: LinkPoint,
-    sets: &[u32],
-    codes: &[u32],
-    values: &[f64],
-    limits: &[f64],
+    network: &Network,
     train: TrainParams,
     all: &mut [Laid],
     n: usize,
 ) -> usize
     ensures laid { take result all.new
-        ≡ spec.with_more all.old n (spec.point_lays train (speed_sets sets.now codes.now values.now limits.now) p) }
+        ≡ spec.with_more all.old n (spec.point_lays train (sets_of (table network.now)) p) }
     ensures within { result ≤ length all.new }
 {
     let number = p.link_idx;
-    let found = applying(sets, codes, values, number, train);
-    let Some(s) = found else {
+    let Some(s) = applying(network, number, train) else {
         return n.min(all.len());
     };
-    add_limits(limits, s, Length(p.offset.0), number, train, all, n)
+    add_limits(network.limits, s, p.offset, number, train, all, n)
 }
 
 // The limits of the links at link points from..to, behind the first n, as many as there is room for; how many there are then.
 pub fn add_links(
-    offsets: &[f64],
-    numbers: &[u32],
+    path: &PathColumns,
     from: usize,
     to: usize,
-    sets: &[u32],
-    codes: &[u32],
-    values: &[f64],
-    limits: &[f64],
+    network: &Network,
     train: TrainParams,
     all: &mut [Laid],
     n: usize,
 ) -> usize
     ensures laid { take result all.new
         ≡ spec.with_more all.old n
-        (spec.lay_from_to train (speed_sets sets.now codes.now values.now limits.now) offsets.now numbers.now from to) }
+        (spec.lay_from_to train (sets_of (table network.now)) path.now.offsets.now path.now.numbers.now from to) }
     ensures within { result ≤ length all.new }
 {
     let mut m = n.min(all.len());
     for k in from..to {
-        let p = link_point_at(offsets, numbers, k);
-        m = add_link(p, sets, codes, values, limits, train, &mut *all, m);
+        let p = link_point_at(path.offsets, path.numbers, k);
+        m = add_link(p, network, train, &mut *all, m);
     }
     m
 }

@@ -1,5 +1,5 @@
 // What holds at an offset, a limit or the top speed, and up to where; and the lowest limit that covers it.
-ghost use Rattle.std.specs.Prelude.{◌≡◌};
+ghost use Rattle.std.specs.Prelude.{◌≡◌, find};
 ghost use Rattle.view.specs.Holders as spec;
 
 use si::Velocity;
@@ -21,20 +21,24 @@ fn holds(l: Laid, x: f64, v: f64) -> bool
     ((l.start <= x) & (x < l.end)) & (ieee::size(l.value) == ieee::size(v))
 }
 
+// The first of the limits that holds v at x.
+fn holder(limits: &[Laid], x: f64, v: f64) -> Option<Laid>
+    ensures { result ≡ find (spec.holds x v) limits.now }
+{
+    limits.iter().copied().find(|l| holds(*l, x, v))
+}
+
 // What holds v at x: the first of the limits that does, otherwise the top speed where v has its size; none only where a limit that was laid is not among
 // those given.
+#[tactic(auto, unfolding(crate::specs::Holders::held_by))]
 pub fn held_by(limits: &[Laid], x: f64, v: f64, top: Velocity) -> Option<Held>
     ensures { result ≡ spec.held_by limits.now x v top.0 }
 {
-    for l in limits {
-        if holds(*l, x, v) {
-            return Some(Held::Limit(*l));
-        }
+    match holder(limits, x, v) {
+        Some(l) => Some(Held::Limit(l)),
+        None if ieee::size(v) == ieee::size(top.0) => Some(Held::Top),
+        None => None,
     }
-    if ieee::size(v) == ieee::size(top.0) {
-        return Some(Held::Top);
-    }
-    None
 }
 
 // The start of a limit with the size of v where it is behind x and before `to`, otherwise `to`.
@@ -52,11 +56,7 @@ fn sooner(l: Laid, x: f64, to: f64, v: f64) -> f64
 fn next_start(limits: &[Laid], x: f64, to: f64, v: f64) -> f64
     ensures { result ≡ spec.next_start limits.now x to v }
 {
-    let mut first = to;
-    for l in limits {
-        first = sooner(*l, x, first, v);
-    }
-    first
+    limits.iter().fold(to, |first, l| sooner(*l, x, first, v))
 }
 
 // Where the part of a limit that x lies in ends, no later than `to`: its board, then its tail.
@@ -115,9 +115,5 @@ fn lower(found: Option<Laid>, l: Laid, x: f64, v: f64) -> Option<Laid>
 pub fn lowest_below(limits: &[Laid], x: f64, v: f64) -> Option<Laid>
     ensures { result ≡ spec.lowest limits.now x v }
 {
-    let mut found = None;
-    for l in limits {
-        found = lower(found, *l, x, v);
-    }
-    found
+    limits.iter().fold(None, |found, l| lower(found, *l, x, v))
 }

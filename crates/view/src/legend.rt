@@ -1,38 +1,36 @@
 // The words over a picture: the file, the train, and a legend with a sample of each line and shade.
-use crate::axes::{Frame, point, text, toward};
-use crate::figures::{tenths, thousandths};
-use crate::names::written;
+use crate::axes::{Frame, Place, text};
+use crate::figures::Figure;
+use crate::names::Name;
 use link::train_params::{TrainParams, TrainType};
-use show::say;
+use show::Sink;
 
 // A train type in words.
-fn type_words(t: TrainType) {
+fn type_words(t: TrainType) -> &'static str {
     match t {
-        TrainType::None => say(b"train of no type"),
-        TrainType::Freight => say(b"freight train"),
-        TrainType::Passenger => say(b"passenger train"),
-        TrainType::Intermodal => say(b"intermodal train"),
-        TrainType::HighSpeedPassenger => say(b"high-speed passenger train"),
-        TrainType::TiltTrain => say(b"tilt train"),
-        TrainType::Commuter => say(b"commuter train"),
+        TrainType::None => "train of no type",
+        TrainType::Freight => "freight train",
+        TrainType::Passenger => "passenger train",
+        TrainType::Intermodal => "intermodal train",
+        TrainType::HighSpeedPassenger => "high-speed passenger train",
+        TrainType::TiltTrain => "tilt train",
+        TrainType::Commuter => "commuter train",
     }
 }
 
 // The file and the train.
-pub fn title(name: &[u8], train: TrainParams) {
-    text(b"title", 60.0, 22.0);
-    written(name);
-    say(b"</text>\n");
-    text(b"start", 60.0, 40.0);
-    let kind = train.train_type;
-    type_words(kind);
-    say(b", ");
-    thousandths(train.length.0);
-    say(b" m long, top speed ");
-    thousandths(train.speed_max.0);
-    say(b" m/s (");
-    tenths(train.speed_max.0 * 3.6);
-    say(b" km/h)</text>\n");
+pub fn title(out: Sink, name: &[u8], train: TrainParams) {
+    let kind = type_words(train.train_type);
+    let length = Figure(train.length.0);
+    let top = Figure(train.speed_max.0);
+    let hourly = Figure(train.speed_max.0 * 3.6);
+    text(out, "title", Place { x: 60.0, y: 22.0 }, Name(name));
+    text(
+        out,
+        "start",
+        Place { x: 60.0, y: 40.0 },
+        format_args!("{kind}, {length:.3} m long, top speed {top:.3} m/s ({hourly:.1} km/h)"),
+    );
 }
 
 // What a sample shows.
@@ -43,41 +41,38 @@ enum Shape {
 }
 
 // A sample of a line or a shade, and what it is.
-fn sample(shape: Shape, class: &[u8], x: f64, words: &[u8]) {
-    say(b"<path class=\"");
-    say(class);
-    say(b"\" d=\"");
+fn sample(out: Sink, shape: Shape, class: &str, x: f64, words: &str) {
+    let (left, right) = (Figure(x), Figure(x + 24.0));
     match shape {
-        Shape::Line => {
-            point(b"M", x, 57.0);
-            toward(b"H", x + 24.0);
-        }
-        Shape::Shade => {
-            point(b"M", x, 51.0);
-            toward(b"H", x + 24.0);
-            say(b"V63");
-            toward(b"H", x);
-            say(b"Z");
-        }
+        Shape::Line => write!(out, "<path class=\"{class}\" d=\"M{left} 57H{right}\"/>\n"),
+        Shape::Shade => write!(
+            out,
+            "<path class=\"{class}\" d=\"M{left} 51H{right}V63H{left}Z\"/>\n",
+        ),
     }
-    say(b"\"/>\n");
-    text(b"start", x + 30.0, 61.0);
-    say(words);
-    say(b"</text>\n");
+    text(
+        out,
+        "start",
+        Place {
+            x: x + 30.0,
+            y: 61.0,
+        },
+        words,
+    );
 }
 
 // The legend: dropped links and heights only where the picture has them.
-pub fn legend(f: Frame) {
-    sample(Shape::Line, b"posted", 60.0, b"posted speed");
-    sample(Shape::Shade, b"board", 200.0, b"above a limit");
-    sample(Shape::Shade, b"tail", 340.0, b"in its tail");
-    sample(Shape::Line, b"border", 460.0, b"link border");
+pub fn legend(out: Sink, f: Frame) {
+    sample(out, Shape::Line, "posted", 60.0, "posted speed");
+    sample(out, Shape::Shade, "board", 200.0, "above a limit");
+    sample(out, Shape::Shade, "tail", 340.0, "in its tail");
+    sample(out, Shape::Line, "border", 460.0, "link border");
     let mut x = 590.0;
     if f.heights.is_some() {
-        sample(Shape::Line, b"height", x, b"height");
+        sample(out, Shape::Line, "height", x, "height");
         x = 690.0;
     }
     if 0.0 < f.begin {
-        sample(Shape::Shade, b"dropped", x, b"dropped links");
+        sample(out, Shape::Shade, "dropped", x, "dropped links");
     }
 }

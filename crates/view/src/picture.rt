@@ -1,173 +1,159 @@
 // The picture of a run as SVG: distance across, the speed posted as a step line, limits with their tails, link borders, dropped links grey, heights below.
-use crate::axes::{Frame, Span, axes, larger, point, text, toward};
-use crate::figures::digit_count;
+use crate::axes::{Frame, Place, Span, axes, larger, text};
+use crate::figures::{Figure, digit_count};
 use crate::legend::{legend, title};
 use crate::profile::{Border, Height};
 use crate::stretches::Posted;
 use link::train_params::TrainParams;
-use show::{plain, say};
+use show::Sink;
 use speed::laid::Laid;
 use speed::speed_limit::lesser;
 
 // What speeds from v on are shaded with, from one offset to another.
-fn bar(f: Frame, from: f64, to: f64, v: f64) {
+fn bar(out: Sink, f: Frame, from: f64, to: f64, v: f64) {
     if (from < to) & (from < f.last) & (0.0 < to) {
-        let left = f.across(from);
-        let right = larger(f.across(to), left + 1.0);
-        point(b"M", left, f.up(v));
-        toward(b"H", right);
-        say(b"V96");
-        toward(b"H", left);
-        say(b"Z");
+        let x = f.across(from);
+        let left = Figure(x);
+        let right = Figure(larger(f.across(to), x + 1.0));
+        write!(out, "M{left} {}H{right}V96H{left}Z", Figure(f.up(v)));
     }
 }
 
-// A part of a limit.
-#[derive(Clone, Copy)]
-enum Part {
-    Board,
-    Tail,
-}
-
-// All limits by their boards, or by their tails, as one shape, so that they have one shade where they overlap.
-fn bars(f: Frame, part: Part, all: &[Laid]) {
+// Limits, over the tails: all of either as one shape, so that they have one shade where they overlap.
+fn limits(out: Sink, f: Frame, all: &[Laid]) {
+    write!(out, "<path class=\"tail\" d=\"");
     for l in all {
-        match part {
-            Part::Board => bar(f, l.start, l.board, l.value),
-            Part::Tail => bar(f, l.board, l.end, l.value),
-        }
+        bar(out, f, l.board, l.end, l.value);
     }
-}
-
-// Limits, over the tails.
-fn limits(f: Frame, all: &[Laid]) {
-    say(b"<path class=\"tail\" d=\"");
-    bars(f, Part::Tail, all);
-    say(b"\"/>\n<path class=\"board\" d=\"");
-    bars(f, Part::Board, all);
-    say(b"\"/>\n");
+    write!(out, "\"/>\n<path class=\"board\" d=\"");
+    for l in all {
+        bar(out, f, l.start, l.board, l.value);
+    }
+    write!(out, "\"/>\n");
 }
 
 // Links that were dropped.
-fn dropped(f: Frame) {
+fn dropped(out: Sink, f: Frame) {
     if 0.0 < f.begin {
-        let right = f.across(f.begin);
-        say(b"<path class=\"dropped\" d=\"M60 96");
-        toward(b"H", right);
-        say(b"V376H60Z");
+        let right = Figure(f.across(f.begin));
+        write!(out, "<path class=\"dropped\" d=\"M60 96H{right}V376H60Z");
         if f.heights.is_some() {
-            say(b"M60 440");
-            toward(b"H", right);
-            say(b"V530H60Z");
+            write!(out, "M60 440H{right}V530H60Z");
         }
-        say(b"\"/>\n");
+        write!(out, "\"/>\n");
     }
 }
 
 // A border across the picture, one of n; of many a mark over it.
-fn border_at(f: Frame, x: f64, n: usize) {
+fn border_at(out: Sink, f: Frame, x: f64, n: usize) {
+    let across = Figure(x);
     if 80 < n {
-        point(b"M", x, 88.0);
-        say(b"V96");
+        write!(out, "M{across} 88V96");
         return;
     }
-    point(b"M", x, 76.0);
-    say(b"V376");
+    write!(out, "M{across} 76V376");
     if f.heights.is_some() {
-        point(b"M", x, 440.0);
-        say(b"V530");
+        write!(out, "M{across} 440V530");
     }
 }
 
 // Link borders; one that is not two wide from the last drawn is left out.
-fn borders(f: Frame, all: &[Border]) {
-    say(b"<path class=\"border\" d=\"");
+fn borders(out: Sink, f: Frame, all: &[Border]) {
+    write!(out, "<path class=\"border\" d=\"");
     let mut drawn = 0.0;
     for border in all {
         let x = f.across(border.offset);
         if drawn + 2.0 <= x {
-            border_at(f, x, all.len());
+            border_at(out, f, x, all.len());
             drawn = x;
         }
     }
-    say(b"\"/>\n");
+    write!(out, "\"/>\n");
 }
 
 // The number of a link from x on, where there is room for it in the width.
-fn number(x: f64, width: f64, link: u32) {
-    let digits = 8.0 * std::num::nearest_usize_to_f64(digit_count(link as u64));
+fn number(out: Sink, x: f64, width: f64, link: u32) {
+    let digits = 8.0 * f64::from(digit_count(link as u64));
     if width < digits + 4.0 {
         return;
     }
-    text(b"middle", x + width / 2.0, 84.0);
-    if digits + 34.0 <= width {
-        say(b"link ");
-    }
-    plain(link as usize);
-    say(b"</text>\n");
+    let word = if digits + 34.0 <= width { "link " } else { "" };
+    let middle = Place {
+        x: x + width / 2.0,
+        y: 84.0,
+    };
+    text(out, "middle", middle, format_args!("{word}{link}"));
 }
 
 // The links' numbers, each up to the next border.
-fn numbers(f: Frame, all: &[Border]) {
+fn numbers(out: Sink, f: Frame, all: &[Border]) {
     for (i, border) in all.iter().enumerate() {
         let end = match all.get(i + 1) {
             Some(next) => next.offset,
             None => f.last,
         };
         let x = f.across(border.offset);
-        number(x, f.across(end) - x, border.link);
+        number(out, x, f.across(end) - x, border.link);
     }
 }
 
-// The place of the speed posted where the path begins.
+// The speed posted where the path begins.
 fn beginning(f: Frame, posted: Posted) -> f64 {
-    let mut y = f.up(posted.at(0).1);
-    for i in 0..posted.count {
-        let p = posted.at(i);
-        if p.0 <= f.begin {
-            y = f.up(p.1);
+    let mut v = posted.at(0).speed_limit;
+    for k in 0..posted.len() {
+        let p = posted.at(k);
+        if p.offset.0 <= f.begin {
+            v = p.speed_limit;
         }
     }
-    y
+    v.0
 }
 
 // The speeds posted, as a step line from the path's beginning to its end.
-fn steps(f: Frame, posted: Posted) {
-    say(b"<path class=\"posted\" d=\"");
-    point(b"M", f.across(f.begin), beginning(f, posted));
-    for i in 0..posted.count {
-        let p = posted.at(i);
-        if (f.begin < p.0) & (p.0 < f.last) {
-            toward(b"H", f.across(p.0));
-            toward(b"V", f.up(p.1));
+fn steps(out: Sink, f: Frame, posted: Posted) {
+    let first = Place {
+        x: f.across(f.begin),
+        y: f.up(beginning(f, posted)),
+    };
+    write!(out, "<path class=\"posted\" d=\"M{first}");
+    for k in 0..posted.len() {
+        let p = posted.at(k);
+        let o = p.offset.0;
+        if (f.begin < o) & (o < f.last) {
+            let across = Figure(f.across(o));
+            write!(out, "H{across}V{}", Figure(f.up(p.speed_limit.0)));
         }
     }
-    toward(b"H", f.across(f.last));
-    say(b"\"/>\n");
+    write!(out, "H{}\"/>\n", Figure(f.across(f.last)));
 }
 
 // The heights: points of a line that goes on behind each but a break.
-fn heights(f: Frame, span: Span, all: &[Height]) {
-    say(b"<path class=\"height\" d=\"");
-    let mut goes_on = false;
+fn heights(out: Sink, f: Frame, span: Span, all: &[Height]) {
+    write!(out, "<path class=\"height\" d=\"");
+    let mut letter = 'M';
     for h in all {
-        let is_point = ieee::is_finite(h.height);
-        if is_point {
-            let letter = if goes_on { b"L" } else { b"M" };
-            point(letter, f.across(h.offset), span.level(h.height));
-        }
-        goes_on = is_point;
+        letter = match h.height {
+            Some(height) => {
+                let at = Place {
+                    x: f.across(h.offset),
+                    y: span.level(height),
+                };
+                write!(out, "{letter}{at}");
+                'L'
+            }
+            None => 'M',
+        };
     }
-    say(b"\"/>\n");
+    write!(out, "\"/>\n");
 }
 
-// From the lowest to the highest of the heights, a break being neither; none where there are breaks alone. Heights that are all one get room around them.
+// From the lowest to the highest of the heights; none where there are breaks alone. Heights that are all one get room around them.
 fn span_of(all: &[Height]) -> Option<Span> {
-    let mut low = 1.0 / 0.0;
-    let mut high = -low;
-    for h in all {
-        low = lesser(low, h.height);
-        high = larger(high, h.height);
+    let mut low = f64::INFINITY;
+    let mut high = f64::NEG_INFINITY;
+    for height in all.iter().filter_map(|h| h.height) {
+        low = lesser(low, height);
+        high = larger(high, height);
     }
     if !(low <= high) {
         return None;
@@ -183,75 +169,96 @@ fn span_of(all: &[Height]) -> Option<Span> {
 }
 
 // The page, as high as asked for.
-fn head(height: usize) {
-    say(b"<svg xmlns=\"http://www.w3.org/2000/svg\" viewBox=\"0 0 1120 ");
-    plain(height);
-    say(b"\" font-family=\"sans-serif\" font-size=\"12\">\n<style>\n");
-    say(b".page { fill: white }\n");
-    say(b".title { font-size: 15px; font-weight: bold }\n");
-    say(b".middle { text-anchor: middle }\n");
-    say(b".end { text-anchor: end }\n");
-    say(b".axis { fill: none; stroke: black }\n");
-    say(b".tick { stroke: black }\n");
-    say(b".grid { stroke: black; stroke-opacity: 0.15 }\n");
-    say(b".dropped { fill: #808080; fill-opacity: 0.3 }\n");
-    say(b".board { fill: #f1b3b4 }\n");
-    say(b".tail { fill: #ffdbda }\n");
-    say(b".border { stroke: #808080; stroke-width: 0.7; stroke-dasharray: 5 3 }\n");
-    say(b".posted { fill: none; stroke: #1f3f9f; stroke-width: 2.5 }\n");
-    say(b".height { fill: none; stroke: #2ca02c; stroke-width: 2; stroke-linecap: round }\n");
-    say(b"</style>\n<rect class=\"page\" width=\"1120\" height=\"");
-    plain(height);
-    say(b"\"/>\n");
+fn head(out: Sink, height: usize) {
+    write!(
+        out,
+        "<svg xmlns=\"http://www.w3.org/2000/svg\" viewBox=\"0 0 1120 {height}\" font-family=\"sans-serif\" font-size=\"12\">\n<style>\n",
+    );
+    write!(out, ".page {{ fill: white }}\n");
+    write!(out, ".title {{ font-size: 15px; font-weight: bold }}\n");
+    write!(out, ".middle {{ text-anchor: middle }}\n");
+    write!(out, ".end {{ text-anchor: end }}\n");
+    write!(out, ".axis {{ fill: none; stroke: black }}\n");
+    write!(out, ".tick {{ stroke: black }}\n");
+    write!(out, ".grid {{ stroke: black; stroke-opacity: 0.15 }}\n");
+    write!(out, ".dropped {{ fill: #808080; fill-opacity: 0.3 }}\n");
+    write!(out, ".board {{ fill: #f1b3b4 }}\n");
+    write!(out, ".tail {{ fill: #ffdbda }}\n");
+    write!(
+        out,
+        ".border {{ stroke: #808080; stroke-width: 0.7; stroke-dasharray: 5 3 }}\n"
+    );
+    write!(
+        out,
+        ".posted {{ fill: none; stroke: #1f3f9f; stroke-width: 2.5 }}\n"
+    );
+    write!(
+        out,
+        ".height {{ fill: none; stroke: #2ca02c; stroke-width: 2; stroke-linecap: round }}\n"
+    );
+    write!(
+        out,
+        "</style>\n<rect class=\"page\" width=\"1120\" height=\"{height}\"/>\n"
+    );
 }
 
-// The picture of a run in which nothing was joined.
-fn empty(name: &[u8], train: TrainParams) {
-    head(80);
-    title(name, train);
-    text(b"start", 60.0, 61.0);
-    say(b"The path has no links, or none with a length.</text>\n</svg>\n");
+// A run: the file and the train, the path from `begin` to `last`, and what was joined since `new`.
+#[derive(Clone, Copy)]
+pub struct Picture<'a> {
+    pub name: &'a [u8],
+    pub train: TrainParams,
+    pub begin: f64,
+    pub last: f64,
+    pub posted: Posted<'a>,
+    pub limits: &'a [Laid],
+    pub borders: &'a [Border],
+    pub heights: &'a [Height],
 }
 
-// What the picture shows of a path from `begin` to `last`: speeds a little beyond the top speed; 1 m/s where that is 0.
-fn frame_of(begin: f64, last: f64, top: f64, all: &[Height]) -> Frame {
-    let size = ieee::size(top);
-    let reach = if 0.0 < size { size * 1.05 } else { 1.0 };
-    Frame {
-        begin,
-        last,
-        reach,
-        heights: span_of(all),
+impl Picture<'_> {
+    // The picture of a run in which nothing was joined.
+    fn empty(&self, out: Sink) {
+        head(out, 80);
+        title(out, self.name, self.train);
+        text(
+            out,
+            "start",
+            Place { x: 60.0, y: 61.0 },
+            "The path has no links, or none with a length.",
+        );
+        write!(out, "</svg>\n");
     }
-}
 
-// The whole picture: of a file, a train, and a path from `begin` to `last`.
-pub fn picture(
-    name: &[u8],
-    train: TrainParams,
-    begin: f64,
-    last: f64,
-    posted: Posted,
-    all_limits: &[Laid],
-    all_borders: &[Border],
-    all_heights: &[Height],
-) {
-    if !(0.0 < last) {
-        empty(name, train);
-        return;
+    // What the picture shows: speeds a little beyond the top speed; 1 m/s where that is 0.
+    fn frame(&self) -> Frame {
+        let top = ieee::size(self.train.speed_max.0);
+        Frame {
+            begin: self.begin,
+            last: self.last,
+            reach: if 0.0 < top { top * 1.05 } else { 1.0 },
+            heights: span_of(self.heights),
+        }
     }
-    let f = frame_of(begin, last, train.speed_max.0, all_heights);
-    head(if f.heights.is_some() { 545 } else { 425 });
-    title(name, train);
-    legend(f);
-    limits(f, all_limits);
-    dropped(f);
-    axes(f);
-    borders(f, all_borders);
-    numbers(f, all_borders);
-    steps(f, posted);
-    if let Some(span) = f.heights {
-        heights(f, span, all_heights);
+
+    // The whole picture.
+    pub fn draw(&self, out: Sink) {
+        if !(0.0 < self.last) {
+            self.empty(out);
+            return;
+        }
+        let f = self.frame();
+        head(out, if f.heights.is_some() { 545 } else { 425 });
+        title(out, self.name, self.train);
+        legend(out, f);
+        limits(out, f, self.limits);
+        dropped(out, f);
+        axes(out, f);
+        borders(out, f, self.borders);
+        numbers(out, f, self.borders);
+        steps(out, f, self.posted);
+        if let Some(span) = f.heights {
+            heights(out, f, span, self.heights);
+        }
+        write!(out, "</svg>\n");
     }
-    say(b"</svg>\n");
 }

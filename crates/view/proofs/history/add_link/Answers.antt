@@ -1,6 +1,7 @@
 -- `add_link`: the set that is taken, and then its limits.
 use Rattle.std.proofs.Common.{ℕ, take, sym, ap, ◌∙◌, arith, Some}
-use Rattle.path_speeds.specs.Limits.{speed_sets}
+use Rattle.link.specs.Table.{table}
+use Rattle.path_speeds.specs.Limits.{sets_of}
 use Rattle.view.specs.History.{with_more}
 use Rattle.view.proofs.Laid.{take_min}
 use Rattle.view.proofs.Lays.{lays-by, lays-none}
@@ -10,20 +11,20 @@ pub returns-in_default : goal.returns-in_default
 returns-in_default c =
     let a = c.args in
     let all = a.all.now in
-    let q = speed_sets a.sets.now a.codes.now a.values.now a.limits.now in
+    let q = sets_of (table a.network.now) in
     record {
       laid = ap (λ (k : ℕ). take k all) c.min.ensures
           ∙ take_min all a.n
-          ∙ ap (with_more all a.n) (lays-none a.train q a.p c.applying-found.result c.applying-found.ensures c.in_default.is);
+          ∙ ap (with_more all a.n) (lays-none a.train q a.p c.applying.result c.applying.ensures c.in_default.is);
       within = omega arith;
     }
 
 pub returns : goal.returns
 returns c =
     let a = c.args in
-    let q = speed_sets a.sets.now a.codes.now a.values.now a.limits.now in
+    let q = sets_of (table a.network.now) in
     record {
       laid = c.add_limits.ensures.laid
-          ∙ ap (with_more a.all.now a.n) (lays-by a.train q a.p (Some c.in-Some.s) (sym c.in-Some.is ∙ c.applying-found.ensures));
+          ∙ ap (with_more a.all.now a.n) (lays-by a.train q a.p (Some c.in-Some.s) (sym c.in-Some.is ∙ c.applying.ensures));
       within = c.add_limits.ensures.within;
     }

@@ -1,6 +1,7 @@
 -- `add_links`: what is left to add from link point k on gives what was to be added at first.
 use Rattle.std.proofs.Common.{◌+◌, arith}
-use Rattle.path_speeds.specs.Limits.{speed_sets}
+use Rattle.link.specs.Table.{table}
+use Rattle.path_speeds.specs.Limits.{sets_of}
 use Rattle.view.specs.History.{with_more, point_lays, lay_from_to}
 use Rattle.view.proofs.Laid.{adding-first, adding-more, adding-last}
 use Rattle.view.proofs.Lays.{lay-next, lay-none}
@@ -9,18 +10,18 @@ use Rattle.view.proofs.history.add_links.Goals as goal
 pub loop-k-init : goal.loop-k-init
 loop-k-init c =
     let a = c.args in
-    let q = speed_sets a.sets.now a.codes.now a.values.now a.limits.now in
-    adding-first a.all.now a.n c.min-m.result (lay_from_to a.train q a.offsets.now a.numbers.now a.from a.to) c.min-m.ensures
+    let q = sets_of (table a.network.now) in
+    adding-first a.all.now a.n c.min-m.result (lay_from_to a.train q a.path.now.offsets.now a.path.now.numbers.now a.from a.to) c.min-m.ensures
 
 pub loop-k-preserved : goal.loop-k-preserved
 loop-k-preserved c =
     let a = c.args in
-    let q = speed_sets a.sets.now a.codes.now a.values.now a.limits.now in
+    let q = sets_of (table a.network.now) in
     let o = c.loop-k in
     let p = c.link_point_at-p.result in
     let r = c.add_link-m in
-    adding-more {goal = with_more a.all.now a.n (lay_from_to a.train q a.offsets.now a.numbers.now a.from a.to)} o.invariant (point_lays a.train q p) (lay_from_to a.train q a.offsets.now a.numbers.now (o.k + 1) a.to) r.new.all r.result
-    (lay-next a.train q a.offsets.now a.numbers.now o.k a.to c.loop-k-test.true p c.link_point_at-p.ensures) r.ensures.laid r.ensures.within r.auto.all
+    adding-more {goal = with_more a.all.now a.n (lay_from_to a.train q a.path.now.offsets.now a.path.now.numbers.now a.from a.to)} o.invariant (point_lays a.train q p) (lay_from_to a.train q a.path.now.offsets.now a.path.now.numbers.now (o.k + 1) a.to) r.new.all r.result
+    (lay-next a.train q a.path.now.offsets.now a.path.now.numbers.now o.k a.to c.loop-k-test.true p c.link_point_at-p.ensures) r.ensures.laid r.ensures.within r.auto.all
 
 pub shape_of-all : goal.shape_of-all
 shape_of-all c = c.loop-k.invariant.long
@@ -28,6 +29,6 @@ shape_of-all c = c.loop-k.invariant.long
 pub returns : goal.returns
 returns c =
     let a = c.args in
-    let q = speed_sets a.sets.now a.codes.now a.values.now a.limits.now in
+    let q = sets_of (table a.network.now) in
     let g = c.loop-k.invariant in
-    record { laid = adding-last g (lay-none a.train q a.offsets.now a.numbers.now c.loop-k.k a.to c.loop-k-test.false); within = omega (arith, g.within, g.long) }
+    record { laid = adding-last g (lay-none a.train q a.path.now.offsets.now a.path.now.numbers.now c.loop-k.k a.to c.loop-k-test.false); within = omega (arith, g.within, g.long) }
