@@ -168,37 +168,32 @@ fn span_of(all: &[Height]) -> Option<Span> {
     Some(Span { low, high })
 }
 
+// How each class is drawn.
+const STYLE: &str = ".page { fill: white }
+.title { font-size: 15px; font-weight: bold }
+.middle { text-anchor: middle }
+.end { text-anchor: end }
+.axis { fill: none; stroke: black }
+.tick { stroke: black }
+.grid { stroke: black; stroke-opacity: 0.15 }
+.dropped { fill: #808080; fill-opacity: 0.3 }
+.board { fill: #f1b3b4 }
+.tail { fill: #ffdbda }
+.border { stroke: #808080; stroke-width: 0.7; stroke-dasharray: 5 3 }
+.posted { fill: none; stroke: #1f3f9f; stroke-width: 2.5 }
+.height { fill: none; stroke: #2ca02c; stroke-width: 2; stroke-linecap: round }
+";
+
 // The page, as high as asked for.
 fn head(out: Sink, height: usize) {
     write!(
         out,
-        "<svg xmlns=\"http://www.w3.org/2000/svg\" viewBox=\"0 0 1120 {height}\" font-family=\"sans-serif\" font-size=\"12\">\n<style>\n",
+        "<svg xmlns=\"http://www.w3.org/2000/svg\" viewBox=\"0 0 1120 {height}\" font-family=\"sans-serif\" font-size=\"12\">\n",
     );
-    write!(out, ".page {{ fill: white }}\n");
-    write!(out, ".title {{ font-size: 15px; font-weight: bold }}\n");
-    write!(out, ".middle {{ text-anchor: middle }}\n");
-    write!(out, ".end {{ text-anchor: end }}\n");
-    write!(out, ".axis {{ fill: none; stroke: black }}\n");
-    write!(out, ".tick {{ stroke: black }}\n");
-    write!(out, ".grid {{ stroke: black; stroke-opacity: 0.15 }}\n");
-    write!(out, ".dropped {{ fill: #808080; fill-opacity: 0.3 }}\n");
-    write!(out, ".board {{ fill: #f1b3b4 }}\n");
-    write!(out, ".tail {{ fill: #ffdbda }}\n");
+    write!(out, "<style>\n{STYLE}</style>\n");
     write!(
         out,
-        ".border {{ stroke: #808080; stroke-width: 0.7; stroke-dasharray: 5 3 }}\n"
-    );
-    write!(
-        out,
-        ".posted {{ fill: none; stroke: #1f3f9f; stroke-width: 2.5 }}\n"
-    );
-    write!(
-        out,
-        ".height {{ fill: none; stroke: #2ca02c; stroke-width: 2; stroke-linecap: round }}\n"
-    );
-    write!(
-        out,
-        "</style>\n<rect class=\"page\" width=\"1120\" height=\"{height}\"/>\n"
+        "<rect class=\"page\" width=\"1120\" height=\"{height}\"/>\n"
     );
 }
 

@@ -35,7 +35,7 @@ impl Posted<'_> {
 
     // Where the stretch from point k on ends; that of the last point has no end.
     fn end(self, k: usize) -> f64
-        requires { k < length self.entry.0.now / 2 }
+        requires { k < length self.0.now / 2 }
     {
         if k + 1 < self.len() {
             self.at(k + 1).offset.0
