@@ -2,12 +2,14 @@
 use crate::answers::{Entries, Reply, Told};
 use crate::columns::Columns;
 use crate::fields::{Fault, length, numbers, to_number};
+use path::columns::{PathColumns, PathColumnsMut};
 use path::path_tpc::PathTpc;
 use path_clear::clear::ClearAnswer;
-use path_posted::posted_speed::posted_speed;
+use path_clear::clear_each::clear_each;
+use path_posted::posted_speed::{PostedAnswer, posted_speed};
 use std::alloc::{AllocError, Global};
 use std::fmt;
-use train::set_link_and_offset::with_link_and_offset;
+use train::set_link_and_offset::{StateAnswer, with_link_and_offset};
 
 // A path: its record and its seven columns.
 #[derive(Drop)]
@@ -57,6 +59,32 @@ impl Path {
             districts: wholes(alloc, columns, "districts")?,
         })
     }
+
+    // Its columns, to read.
+    fn reading(&self) -> PathColumns<'_> {
+        PathColumns {
+            offsets: &self.offsets,
+            numbers: &self.numbers,
+            grades: &self.grades,
+            curves: &self.curves,
+            speeds: &self.speeds,
+            powers: &self.powers,
+            districts: &self.districts,
+        }
+    }
+
+    // Its columns, for a call that may change them.
+    fn lent(&mut self) -> PathColumnsMut<'_> {
+        PathColumnsMut {
+            offsets: &mut self.offsets,
+            numbers: &mut self.numbers,
+            grades: &mut self.grades,
+            curves: &mut self.curves,
+            speeds: &mut self.speeds,
+            powers: &mut self.powers,
+            districts: &mut self.districts,
+        }
+    }
 }
 
 // position TRAIN FRONT BACK LINK LINK OFFSET: the position, and the link numbers and the offset that a refused call leaves.
@@ -69,17 +97,8 @@ pub fn position(alloc: Global, columns: &Columns, args: &[&str]) -> Result<Reply
     s.link_idx_back = to_number(link_back)?;
     s.offset_in_link = length(in_link)?;
     let p = Path::read(alloc, columns)?;
-    Ok(Reply::from(with_link_and_offset(
-        s,
-        p.record,
-        &p.offsets,
-        &p.numbers,
-        &p.grades,
-        &p.curves,
-        &p.speeds,
-        &p.powers,
-        &p.districts,
-    )))
+    let found = with_link_and_offset(s, p.record, &p.reading());
+    Ok(Reply::from(StateAnswer::told(s, found)))
 }
 
 // posted OFFSET: the speed posted there.
@@ -89,17 +108,8 @@ pub fn posted(alloc: Global, columns: &Columns, args: &[&str]) -> Result<Reply, 
     };
     let x = length(offset)?;
     let p = Path::read(alloc, columns)?;
-    Ok(Reply::from(posted_speed(
-        p.record,
-        x,
-        &p.offsets,
-        &p.numbers,
-        &p.grades,
-        &p.curves,
-        &p.speeds,
-        &p.powers,
-        &p.districts,
-    )))
+    let speed = posted_speed(p.record, x, &p.reading());
+    Ok(Reply::from(PostedAnswer::from(speed)))
 }
 
 // The answer to a list of trims, and the columns that it leaves.
@@ -113,17 +123,9 @@ pub struct Trimmed {
 pub fn trims(alloc: Global, columns: &Columns, args: &[&str]) -> Result<Trimmed, Fault> {
     let xs = numbers::<f64>(alloc, args)?;
     let mut p = Path::read(alloc, columns)?;
-    let answer = path_clear::clear_each::clear_each(
-        p.record,
-        &xs,
-        &mut p.offsets,
-        &mut p.numbers,
-        &mut p.grades,
-        &mut p.curves,
-        &mut p.speeds,
-        &mut p.powers,
-        &mut p.districts,
-    );
+    let before = p.record;
+    let trimmed = clear_each(before, &xs, &mut p.lent());
+    let answer = ClearAnswer::told(before, trimmed);
     Ok(Trimmed { answer, left: p })
 }
 

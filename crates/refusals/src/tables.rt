@@ -2,7 +2,7 @@
 use crate::columns::Columns;
 use crate::fields::{Fault, numbers, to_number};
 use link::network::Network;
-use link::questions::question5;
+use link::questions::{Numbers, question5};
 use link::train_params::TrainType;
 use std::alloc::Global;
 use std::fmt;
@@ -68,18 +68,18 @@ impl Edited<'_> {
 
     // The questions put to the table.
     fn judge(&self, list: &[u32]) -> Judged {
-        let n = list.len();
         let network = self.network();
-        if let Some(p) = network.question4(list, false, n) {
+        let numbers = Numbers::Listed(list);
+        if let Some(p) = network.question4(&numbers) {
             return Judged(Some((4, p)));
         }
         if let Some(p) = question5(list, network.links, None) {
             return Judged(Some((5, p)));
         }
-        if let Some(p) = network.question6(list, false, n) {
+        if let Some(p) = network.question6(&numbers) {
             return Judged(Some((6, p)));
         }
-        let no_set = network.question7(list, false, n, TrainType::Freight);
+        let no_set = network.question7(&numbers, TrainType::Freight);
         Judged(no_set.map(|p| (7, p)))
     }
 }
