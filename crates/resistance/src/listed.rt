@@ -5,7 +5,6 @@ ghost use Rattle.resistance.specs.Listed as spec;
 
 use answer::{Answer, Question, Refusal};
 use lookup::coeff_list::CoeffList;
-use path::questions::done;
 use si::{Length, Ratio};
 use train::train_state::{TrainState, state_finite};
 
@@ -40,7 +39,7 @@ impl From<Result<usize, Refusal>> for Searched {
     fn from(found: Result<usize, Refusal>) -> Searched {
         match found {
             Ok(idx) => Searched {
-                answer: done(),
+                answer: Answer::from(Ok(())),
                 idx,
             },
             Err(e) => Searched {
@@ -57,7 +56,7 @@ impl From<Result<Ratio, Refusal>> for CoeffAnswer {
     fn from(found: Result<Ratio, Refusal>) -> CoeffAnswer {
         match found {
             Ok(res_coeff) => CoeffAnswer {
-                answer: done(),
+                answer: Answer::from(Ok(())),
                 res_coeff,
             },
             Err(e) => CoeffAnswer {
@@ -74,7 +73,7 @@ impl From<Result<Length, Refusal>> for NetAnswer {
     fn from(found: Result<Length, Refusal>) -> NetAnswer {
         match found {
             Ok(res_net) => NetAnswer {
-                answer: done(),
+                answer: Answer::from(Ok(())),
                 res_net,
             },
             Err(e) => NetAnswer {

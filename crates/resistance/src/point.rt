@@ -8,7 +8,6 @@ use crate::listed::{res_coeff, res_net};
 use answer::{Answer, Question, Refusal};
 use lookup::coeff_list::CoeffList;
 use lookup::lin_search_hint::Dir;
-use path::questions::done;
 use si::{Force, Length, Ratio};
 use train::train_state::{TrainState, state_finite};
 
@@ -50,7 +49,7 @@ impl PointAnswer {
     {
         match r {
             Ok(point) => PointAnswer {
-                answer: done(),
+                answer: Answer::from(Ok(())),
                 point,
             },
             Err(e) => PointAnswer {
@@ -68,7 +67,7 @@ impl PointRes {
     {
         match r {
             Ok(there) => PointRes {
-                answer: done(),
+                answer: Answer::from(Ok(())),
                 point: there.point,
                 res: there.res,
             },

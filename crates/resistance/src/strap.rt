@@ -7,7 +7,6 @@ use crate::listed::{res_coeff, res_net};
 use answer::{Answer, Question, Refusal};
 use lookup::coeff_list::CoeffList;
 use lookup::lin_search_hint::Dir;
-use path::questions::done;
 use si::{Force, Length, Ratio};
 use train::train_state::{TrainState, state_finite};
 
@@ -57,7 +56,7 @@ impl StrapAnswer {
     {
         match r {
             Ok(strap) => StrapAnswer {
-                answer: done(),
+                answer: Answer::from(Ok(())),
                 strap,
             },
             Err(e) => StrapAnswer {
@@ -75,7 +74,7 @@ impl StrapRes {
     {
         match r {
             Ok(there) => StrapRes {
-                answer: done(),
+                answer: Answer::from(Ok(())),
                 strap: there.strap,
                 res: there.res,
             },

@@ -1,7 +1,5 @@
 -- `zero_rest`: the seven columns, one after the other.
-use native.Mathlib.Omega.{arith}
 use Rattle.path.specs.Records.{held}
-use Rattle.path.proofs.Clauses.{bounds}
 use Rattle.path.proofs.PastCounts.{zeroed}
 use Rattle.path.proofs.columns.PathColumnsMut.zero_rest.Goals as goal
 
