@@ -1,23 +1,22 @@
 -- Codes at the C interface. An unknown code is a no to question 1: number 1, place 0. Definitions only.
-use Rattle.std.specs.Prelude.{ℕ, cond, leb, eqb, Float}
+use Rattle.std.specs.Prelude.{ℕ, cond, leb, eqb, Float, Option, Some, None}
 use Rattle.std.specs.Float.{nan}
 use Rattle.lookup.specs.declared.lin_search_hint.Dir.{Dir}
 use Rattle.lookup.specs.declared.lin_search_hint.Dir.TheVariants.{Unk, Fwd, Bwd}
 use Rattle.link.specs.declared.train_params.TrainType.{TrainType}
-use Rattle.link.specs.declared.train_params.TrainType.TheVariants.{None, Freight, Passenger, Intermodal, HighSpeedPassenger, TiltTrain, Commuter}
+use Rattle.link.specs.declared.train_params.TrainType.TheVariants as types
+use Rattle.link.specs.declared.train_params.TrainType.TheVariants.{Freight, Passenger, Intermodal, HighSpeedPassenger, TiltTrain, Commuter}
 use Rattle.link.specs.declared.train_params.TrainParams.{TrainParams}
 use Rattle.capi.specs.declared.codes.Train.{Train}
-use Rattle.capi.specs.declared.codes.DirCode.{DirCode}
-use Rattle.capi.specs.declared.codes.DirCode.TheVariants.{Known, Unknown}
 
 -- 0, 1 and 2
-abbrev pub dir_of : ℕ → DirCode
-dir_of code = cond (eqb code 0) (Known Unk) (cond (eqb code 1) (Known Fwd) (cond (eqb code 2) (Known Bwd) Unknown))
+abbrev pub dir_of : ℕ → Option Dir
+dir_of code = cond (eqb code 0) (Some Unk) (cond (eqb code 1) (Some Fwd) (cond (eqb code 2) (Some Bwd) None))
 
 -- the answer of a call with a direction, and what a call with an unknown one answers
-abbrev pub directed : {A : Type 0} → DirCode → (Dir → A) → A → A
-directed (Known d) call refused = call d
-directed Unknown call refused = refused
+abbrev pub directed : {A : Type 0} → Option Dir → (Dir → A) → A → A
+directed (Some d) call refused = call d
+directed None call refused = refused
 
 -- 0 to 6 in the Rust's order; none for any other
 abbrev pub type_of : ℕ → TrainType
@@ -28,7 +27,7 @@ type_of code =
     (cond (eqb code 4) HighSpeedPassenger
     (cond (eqb code 5) TiltTrain
     (cond (eqb code 6) Commuter
-    None)))))
+    types.None)))))
 
 -- a train of unknown type has no length that question 1 passes
 abbrev pub judged_length : Train → Float

@@ -21,52 +21,31 @@ pub struct Train {
     pub train_type: u32,
 }
 
-// A direction, or word that its code is unknown.
-#[derive(Clone, Copy)]
-pub enum DirCode {
-    Known(Dir),
-    Unknown,
-}
-
-// The direction of a code: 0 Unk, 1 Fwd, 2 Bwd.
-pub fn dir_of(code: u32) -> DirCode
+// The direction of a code: 0 Unk, 1 Fwd, 2 Bwd; no other code has one.
+pub fn dir_of(code: u32) -> Option<Dir>
     ensures { result ≡ spec.dir_of code }
 {
-    if code == 0 {
-        return DirCode::Known(Dir::Unk);
+    match code {
+        0 => Some(Dir::Unk),
+        1 => Some(Dir::Fwd),
+        2 => Some(Dir::Bwd),
+        _ => None,
     }
-    if code == 1 {
-        return DirCode::Known(Dir::Fwd);
-    }
-    if code == 2 {
-        return DirCode::Known(Dir::Bwd);
-    }
-    DirCode::Unknown
 }
 
 // The type of a code from 0 to 6; None for any other.
 fn type_of(code: u32) -> TrainType
     ensures { result ≡ spec.type_of code }
 {
-    if code == 1 {
-        return TrainType::Freight;
+    match code {
+        1 => TrainType::Freight,
+        2 => TrainType::Passenger,
+        3 => TrainType::Intermodal,
+        4 => TrainType::HighSpeedPassenger,
+        5 => TrainType::TiltTrain,
+        6 => TrainType::Commuter,
+        _ => TrainType::None,
     }
-    if code == 2 {
-        return TrainType::Passenger;
-    }
-    if code == 3 {
-        return TrainType::Intermodal;
-    }
-    if code == 4 {
-        return TrainType::HighSpeedPassenger;
-    }
-    if code == 5 {
-        return TrainType::TiltTrain;
-    }
-    if code == 6 {
-        return TrainType::Commuter;
-    }
-    TrainType::None
 }
 
 // The length to judge: NaN where the type's code is unknown, so that question 1 refuses the train.
@@ -86,13 +65,13 @@ pub fn train_of(t: Train) -> TrainParams
 {
     TrainParams {
         length: Length(judged_length(t)),
-        speed_max: Velocity(t.speed_max.0),
-        towed_mass_static: Mass(t.towed_mass_static.0),
-        mass_per_brake: Mass(t.mass_per_brake.0),
+        speed_max: t.speed_max,
+        towed_mass_static: t.towed_mass_static,
+        mass_per_brake: t.mass_per_brake,
         axle_count: t.axle_count,
         train_type: type_of(t.train_type),
-        curve_coeff_0: Ratio(t.curve_coeff_0.0),
-        curve_coeff_1: Ratio(t.curve_coeff_1.0),
-        curve_coeff_2: Ratio(t.curve_coeff_2.0),
+        curve_coeff_0: t.curve_coeff_0,
+        curve_coeff_1: t.curve_coeff_1,
+        curve_coeff_2: t.curve_coeff_2,
     }
 }

@@ -3,6 +3,8 @@ ghost use Rattle.std.specs.Prelude.{◌≡◌, true, false};
 ghost use Rattle.path.specs.Records.{columns};
 ghost use Rattle.path_link_records.specs.LinkRecords.{link_range_of};
 
+use path::columns::PathColumns;
+use path::lines::Lines;
 use path::path_tpc::PathTpc;
 use path_link_records::link_records::{RangeAnswer, link_range};
 
@@ -21,9 +23,16 @@ pub extern "C" fn mochaspit_link_grades(
 ) -> RangeAnswer
     ensures { result ≡ link_range_of false k path (columns offsets.now numbers.now grades.now curves.now speeds.now powers.now districts.now) }
 {
-    link_range(
-        path, k, false, offsets, numbers, grades, curves, speeds, powers, districts,
-    )
+    let cols = PathColumns {
+        offsets,
+        numbers,
+        grades,
+        curves,
+        speeds,
+        powers,
+        districts,
+    };
+    RangeAnswer::from(link_range(Lines::Grades, path, k, &cols))
 }
 
 // The range of link k's records in the column of curves.
@@ -41,7 +50,14 @@ pub extern "C" fn mochaspit_link_curves(
 ) -> RangeAnswer
     ensures { result ≡ link_range_of true k path (columns offsets.now numbers.now grades.now curves.now speeds.now powers.now districts.now) }
 {
-    link_range(
-        path, k, true, offsets, numbers, grades, curves, speeds, powers, districts,
-    )
+    let cols = PathColumns {
+        offsets,
+        numbers,
+        grades,
+        curves,
+        speeds,
+        powers,
+        districts,
+    };
+    RangeAnswer::from(link_range(Lines::Curves, path, k, &cols))
 }

@@ -8,13 +8,13 @@ ghost use Rattle.resistance.specs.Strap as straps;
 ghost use Rattle.resistance.specs.Walk.{walk_of};
 ghost use Rattle.capi.specs.Codes.{dir_of, directed};
 
-use crate::codes::{DirCode, dir_of};
-use path::questions::asked;
+use crate::codes::dir_of;
+use answer::Question;
 use resistance::listed::{CoeffAnswer, NetAnswer, Searched};
 use resistance::point::{Point, PointAnswer, PointRes};
 use resistance::strap::{Strap, StrapAnswer, StrapRes};
 use resistance::walk::walk;
-use si::{Force, Length};
+use si::Length;
 use train::train_state::TrainState;
 
 // `calc_idx`: the record of a list where an offset lies.
@@ -29,11 +29,8 @@ pub extern "C" fn mochaspit_calc_idx(
     ensures { result ≡ directed (dir_of dir) (λ d. searched_of (calc_idx d offset.0 hint n col.now)) (not_searched 1) }
 {
     match dir_of(dir) {
-        DirCode::Known(d) => Searched::from(lookup::calc_idx::calc_idx(col, n, offset, hint, d)),
-        DirCode::Unknown => Searched {
-            answer: asked(1, false),
-            idx: 0,
-        },
+        Some(d) => Searched::from(lookup::calc_idx::calc_idx(col, n, offset, hint, d)),
+        None => Searched::from(Question::Finite.refused()),
     }
 }
 
@@ -58,12 +55,8 @@ pub extern "C" fn mochaspit_point_calc_res(
     ensures { result ≡ directed (dir_of dir) (λ d. points.calc_res_of d point state n col.now) (points.refused_res (ask 1 false) point) }
 {
     match dir_of(dir) {
-        DirCode::Known(d) => PointRes::told(point, point.calc_res(col, n, state, d)),
-        DirCode::Unknown => PointRes {
-            answer: asked(1, false),
-            point,
-            res: Force(0.0),
-        },
+        Some(d) => PointRes::told(point, point.calc_res(col, n, state, d)),
+        None => PointRes::told(point, Question::Finite.refused()),
     }
 }
 
@@ -132,12 +125,8 @@ pub extern "C" fn mochaspit_strap_calc_res(
     ensures { result ≡ directed (dir_of dir) (λ d. straps.calc_res_of d strap state n col.now) (straps.refused_res (ask 1 false) strap) }
 {
     match dir_of(dir) {
-        DirCode::Known(d) => StrapRes::told(strap, strap.calc_res(col, n, state, d)),
-        DirCode::Unknown => StrapRes {
-            answer: asked(1, false),
-            strap,
-            res: Force(0.0),
-        },
+        Some(d) => StrapRes::told(strap, strap.calc_res(col, n, state, d)),
+        None => StrapRes::told(strap, Question::Finite.refused()),
     }
 }
 
@@ -155,12 +144,8 @@ pub extern "C" fn mochaspit_strap_walk(
     ensures { result ≡ directed (dir_of dir) (λ d. walk_of d step.0 count strap state n col.now) (straps.refused_res (ask 1 false) strap) }
 {
     match dir_of(dir) {
-        DirCode::Known(d) => StrapRes::told(strap, walk(strap, col, n, state, d, step, count)),
-        DirCode::Unknown => StrapRes {
-            answer: asked(1, false),
-            strap,
-            res: Force(0.0),
-        },
+        Some(d) => StrapRes::told(strap, walk(strap, col, n, state, d, step, count)),
+        None => StrapRes::told(strap, Question::Finite.refused()),
     }
 }
 

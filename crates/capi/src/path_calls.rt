@@ -3,7 +3,7 @@ ghost use Rattle.std.specs.Prelude.{◌≡◌};
 ghost use Rattle.link.specs.Table.{table_of};
 ghost use Rattle.path.specs.Records.{columns};
 ghost use Rattle.path.specs.Answers.{Outcome, left};
-ghost use Rattle.path_ends.specs.New.{new_of};
+ghost use Rattle.path_ends.specs.New.{no_path, new_of};
 ghost use Rattle.path_ends.specs.Finish.{finish_of};
 ghost use Rattle.path_clear.specs.Clear.{Cleared, clear_of};
 ghost use Rattle.path_clear.specs.Trims.{clear_each};
@@ -13,9 +13,31 @@ ghost use Rattle.path_extend.specs.Extend.{extend_of};
 ghost use Rattle.capi.specs.Codes.{train_of};
 
 use crate::codes::{Train, train_of};
+use link::network::Network;
+use path::columns::PathColumnsMut;
 use path::path_tpc::{PathAnswer, PathTpc};
-use path_clear::clear::ClearAnswer;
+use path_clear::clear::{ClearAnswer, clear};
+use path_clear::clear_each::clear_each;
+use path_ends::finish::finish;
+use path_ends::new::new;
+use path_extend::extend::extend;
+use path_reindex::reindex::reindex;
+use path_speeds::recalc_speeds::recalc_speeds;
 use si::Length;
+
+// What goes with the answer of a refused `new`: no path.
+fn no_path() -> PathTpc
+    ensures { result ≡ no_path }
+{
+    PathTpc {
+        link_count: 0,
+        grade_count: 0,
+        curve_count: 0,
+        speed_count: 0,
+        power_count: 0,
+        is_finished: false,
+    }
+}
 
 // `new`: a path without links.
 #[unsafe(no_mangle)]
@@ -33,16 +55,16 @@ pub extern "C" fn mochaspit_new(
         (left result (columns offsets.new numbers.new grades.new curves.new speeds.new powers.new districts.new))
         (new_of (train_of train) (columns offsets.old numbers.old grades.old curves.old speeds.old powers.old districts.old)) }
 {
-    path_ends::new::new(
-        train_of(train),
-        &mut *offsets,
-        &mut *numbers,
-        &mut *grades,
-        &mut *curves,
-        &mut *speeds,
-        &mut *powers,
-        &mut *districts,
-    )
+    let mut cols = PathColumnsMut {
+        offsets,
+        numbers,
+        grades,
+        curves,
+        speeds,
+        powers,
+        districts,
+    };
+    PathAnswer::told(no_path(), new(train_of(train), &mut cols))
 }
 
 // `extend`: the listed links join the path.
@@ -75,17 +97,16 @@ pub extern "C" fn mochaspit_extend(
         (table_of links.now lengths.now sets.now elevs.now headings.now limits.now codes.now values.now link_powers.now link_districts.now) list.now path
         (columns offsets.old numbers.old grades.old curves.old speeds.old powers.old districts.old)) }
 {
-    path_extend::extend::extend(
-        path,
-        train_of(train),
-        list,
-        &mut *offsets,
-        &mut *numbers,
-        &mut *grades,
-        &mut *curves,
-        &mut *speeds,
-        &mut *powers,
-        &mut *districts,
+    let mut cols = PathColumnsMut {
+        offsets,
+        numbers,
+        grades,
+        curves,
+        speeds,
+        powers,
+        districts,
+    };
+    let network = Network {
         links,
         lengths,
         sets,
@@ -94,9 +115,11 @@ pub extern "C" fn mochaspit_extend(
         limits,
         codes,
         values,
-        link_powers,
-        link_districts,
-    )
+        powers: link_powers,
+        districts: link_districts,
+    };
+    let r = extend(path, train_of(train), list, &mut cols, &network);
+    PathAnswer::told(path, r)
 }
 
 // `clear`: the links behind an offset go.
@@ -120,17 +143,16 @@ pub extern "C" fn mochaspit_clear(
         })
         (clear_of offset.0 path (columns offsets.old numbers.old grades.old curves.old speeds.old powers.old districts.old)) }
 {
-    path_clear::clear::clear(
-        path,
-        offset,
-        &mut *offsets,
-        &mut *numbers,
-        &mut *grades,
-        &mut *curves,
-        &mut *speeds,
-        &mut *powers,
-        &mut *districts,
-    )
+    let mut cols = PathColumnsMut {
+        offsets,
+        numbers,
+        grades,
+        curves,
+        speeds,
+        powers,
+        districts,
+    };
+    ClearAnswer::told(path, clear(path, offset, &mut cols))
 }
 
 // `clear_each`: the links behind each offset of a list go, in turn, all or nothing.
@@ -154,17 +176,16 @@ pub extern "C" fn mochaspit_clear_each(
         })
         (clear_each xs.now path (columns offsets.old numbers.old grades.old curves.old speeds.old powers.old districts.old)) }
 {
-    path_clear::clear_each::clear_each(
-        path,
-        xs,
-        &mut *offsets,
-        &mut *numbers,
-        &mut *grades,
-        &mut *curves,
-        &mut *speeds,
-        &mut *powers,
-        &mut *districts,
-    )
+    let mut cols = PathColumnsMut {
+        offsets,
+        numbers,
+        grades,
+        curves,
+        speeds,
+        powers,
+        districts,
+    };
+    ClearAnswer::told(path, clear_each(path, xs, &mut cols))
 }
 
 // `finish`: the path is closed.
@@ -183,16 +204,16 @@ pub extern "C" fn mochaspit_finish(
         (left result (columns offsets.new numbers.new grades.new curves.new speeds.new powers.new districts.new))
         (finish_of path (columns offsets.old numbers.old grades.old curves.old speeds.old powers.old districts.old)) }
 {
-    path_ends::finish::finish(
-        path,
-        &mut *offsets,
-        &mut *numbers,
-        &mut *grades,
-        &mut *curves,
-        &mut *speeds,
-        &mut *powers,
-        &mut *districts,
-    )
+    let mut cols = PathColumnsMut {
+        offsets,
+        numbers,
+        grades,
+        curves,
+        speeds,
+        powers,
+        districts,
+    };
+    PathAnswer::told(path, finish(path, &mut cols))
 }
 
 // `recalc_speeds`: the speed points anew.
@@ -224,16 +245,16 @@ pub extern "C" fn mochaspit_recalc_speeds(
         (table_of links.now lengths.now sets.now elevs.now headings.now limits.now codes.now values.now link_powers.now link_districts.now) path
         (columns offsets.old numbers.old grades.old curves.old speeds.old powers.old districts.old)) }
 {
-    path_speeds::recalc_speeds::recalc_speeds(
-        path,
-        train_of(train),
-        &mut *offsets,
-        &mut *numbers,
-        &mut *grades,
-        &mut *curves,
-        &mut *speeds,
-        &mut *powers,
-        &mut *districts,
+    let mut cols = PathColumnsMut {
+        offsets,
+        numbers,
+        grades,
+        curves,
+        speeds,
+        powers,
+        districts,
+    };
+    let network = Network {
         links,
         lengths,
         sets,
@@ -242,9 +263,11 @@ pub extern "C" fn mochaspit_recalc_speeds(
         limits,
         codes,
         values,
-        link_powers,
-        link_districts,
-    )
+        powers: link_powers,
+        districts: link_districts,
+    };
+    let r = recalc_speeds(path, train_of(train), &mut cols, &network);
+    PathAnswer::told(path, r)
 }
 
 // `reindex`: every link gets the number that a list has for it.
@@ -264,15 +287,14 @@ pub extern "C" fn mochaspit_reindex(
         (left result (columns offsets.new numbers.new grades.new curves.new speeds.new powers.new districts.new))
         (reindex_of new.now path (columns offsets.old numbers.old grades.old curves.old speeds.old powers.old districts.old)) }
 {
-    path_reindex::reindex::reindex(
-        path,
-        new,
-        &mut *offsets,
-        &mut *numbers,
-        &mut *grades,
-        &mut *curves,
-        &mut *speeds,
-        &mut *powers,
-        &mut *districts,
-    )
+    let mut cols = PathColumnsMut {
+        offsets,
+        numbers,
+        grades,
+        curves,
+        speeds,
+        powers,
+        districts,
+    };
+    PathAnswer::told(path, reindex(path, new, &mut cols))
 }

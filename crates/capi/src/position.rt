@@ -3,6 +3,7 @@ ghost use Rattle.std.specs.Prelude.{◌≡◌};
 ghost use Rattle.path.specs.Records.{columns};
 ghost use Rattle.train.specs.Locate.{locate_of, placed};
 
+use path::columns::PathColumns;
 use path::path_tpc::PathTpc;
 use train::set_link_and_offset::{StateAnswer, with_link_and_offset};
 use train::train_state::TrainState;
@@ -23,7 +24,14 @@ pub extern "C" fn mochaspit_set_link_and_offset(
     ensures { (result.answer ≡ (locate_of state path (columns offsets.now numbers.now grades.now curves.now speeds.now powers.now districts.now)).answer) ×
         (result.state ≡ placed state (locate_of state path (columns offsets.now numbers.now grades.now curves.now speeds.now powers.now districts.now))) }
 {
-    with_link_and_offset(
-        state, path, offsets, numbers, grades, curves, speeds, powers, districts,
-    )
+    let cols = PathColumns {
+        offsets,
+        numbers,
+        grades,
+        curves,
+        speeds,
+        powers,
+        districts,
+    };
+    StateAnswer::told(state, with_link_and_offset(state, path, &cols))
 }

@@ -3,6 +3,7 @@ ghost use Rattle.std.specs.Prelude.{◌≡◌};
 ghost use Rattle.path.specs.Records.{columns};
 ghost use Rattle.path_posted.specs.Posted.{posted_of};
 
+use path::columns::PathColumns;
 use path::path_tpc::PathTpc;
 use path_posted::posted_speed::{PostedAnswer, posted_speed};
 use si::Length;
@@ -22,7 +23,14 @@ pub extern "C" fn mochaspit_posted_speed(
 ) -> PostedAnswer
     ensures { result ≡ posted_of offset.0 path (columns offsets.now numbers.now grades.now curves.now speeds.now powers.now districts.now) }
 {
-    posted_speed(
-        path, offset, offsets, numbers, grades, curves, speeds, powers, districts,
-    )
+    let cols = PathColumns {
+        offsets,
+        numbers,
+        grades,
+        curves,
+        speeds,
+        powers,
+        districts,
+    };
+    PostedAnswer::from(posted_speed(path, offset, &cols))
 }
