@@ -263,13 +263,13 @@ fn ticks(out: Sink, f: Frame, axis: Axis, low: f64, high: f64, most: f64) {
     if !(ieee::size(begin) < 100000000000000.0) {
         return;
     }
-    let mut k = (begin - 0.000001).ceil();
-    for _ in 0..20 {
+    let first = (begin - 0.000001).ceil();
+    for i in 0..20 {
+        let k = first + f64::from(i);
         if !((k - 0.000001) * s.each <= high) {
             return;
         }
         tick(out, f, axis, k, s);
-        k += 1.0;
     }
 }
 

@@ -16,7 +16,7 @@ use si::Length;
 use speed::laid::Laid;
 use speed::speed_limit::SpeedLimit;
 
-// How many limits, link borders and heights there are.
+// How many limits, link borders and heights there are. The arrays are the caller's, since no library crate has a heap.
 #[derive(Clone, Copy, Default)]
 pub struct History {
     pub limits: usize,

@@ -99,14 +99,12 @@ fn numbers(out: Sink, f: Frame, all: &[Border]) {
 
 // The speed posted where the path begins.
 fn beginning(f: Frame, posted: Posted) -> f64 {
-    let mut v = posted.at(0).speed_limit;
-    for k in 0..posted.len() {
-        let p = posted.at(k);
-        if p.offset.0 <= f.begin {
-            v = p.speed_limit;
-        }
-    }
-    v.0
+    let point = (0..posted.len())
+        .rev()
+        .map(|k| posted.at(k))
+        .find(|p| p.offset.0 <= f.begin)
+        .unwrap_or(posted.at(0));
+    point.speed_limit.0
 }
 
 // The speeds posted, as a step line from the path's beginning to its end.

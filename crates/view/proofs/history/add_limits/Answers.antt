@@ -1,5 +1,5 @@
 -- `add_limits`: what is left to add from limit i on gives what was to be added at first.
-use Rattle.std.proofs.Common.{◌+◌, [], ◌∷◌, ap, ◌∙◌, arith}
+use Rattle.std.proofs.Common.{◌+◌, [], ◌∷◌, ap, ◌∙◌}
 use Rattle.link.specs.Train.{top_speed, length_of}
 use Rattle.link.specs.Table.{limit_of}
 use Rattle.path_speeds.proofs.Lowered.{limits_end}
@@ -36,20 +36,11 @@ loop-i-preserved c =
       | else-l-train w ↦ rw (w.all-is, w.m-is) (adding-none o.invariant rest (left-skip top base tail a.number limits end o.i c.loop-i-test.true l c.speed_limit_at-l.ensures w.if-l-train.false))
     ]
 
-pub shape_of-all : goal.shape_of-all
-shape_of-all c = c.loop-i.invariant.long
-
-pub returns : goal.returns
-returns c =
+pub returns-clause-laid : goal.returns-clause-laid
+returns-clause-laid c =
     let a = c.args in
     let tail = c.tail_of-tail.result.0 in
     let limits = a.limits.now in
     let top = top_speed a.train in
-    let base = a.base.0 in
-    let end = limits_end a.s in
-    let g = c.loop-i.invariant in
-    record {
-      laid = adding-last g (left-none top base tail a.number limits end c.loop-i.i c.loop-i-test.false)
-          ∙ ap (with_more a.all.now a.n) (left-whole top base tail (length_of a.train) a.number limits a.s c.tail_of-tail.ensures);
-      within = omega (arith, g.within, g.long);
-    }
+    adding-last c.loop-i.invariant (left-none top a.base.0 tail a.number limits (limits_end a.s) c.loop-i.i c.loop-i-test.false)
+    ∙ ap (with_more a.all.now a.n) (left-whole top a.base.0 tail (length_of a.train) a.number limits a.s c.tail_of-tail.ensures)

@@ -1,5 +1,5 @@
 -- `add_links`: what is left to add from link point k on gives what was to be added at first.
-use Rattle.std.proofs.Common.{◌+◌, arith}
+use Rattle.std.proofs.Common.{◌+◌}
 use Rattle.link.specs.Table.{table}
 use Rattle.path_speeds.specs.Limits.{sets_of}
 use Rattle.view.specs.History.{with_more, point_lays, lay_from_to}
@@ -23,12 +23,8 @@ loop-k-preserved c =
     adding-more {goal = with_more a.all.now a.n (lay_from_to a.train q a.path.now.offsets.now a.path.now.numbers.now a.from a.to)} o.invariant (point_lays a.train q p) (lay_from_to a.train q a.path.now.offsets.now a.path.now.numbers.now (o.k + 1) a.to) r.new.all r.result
     (lay-next a.train q a.path.now.offsets.now a.path.now.numbers.now o.k a.to c.loop-k-test.true p c.link_point_at-p.ensures) r.ensures.laid r.ensures.within r.auto.all
 
-pub shape_of-all : goal.shape_of-all
-shape_of-all c = c.loop-k.invariant.long
-
-pub returns : goal.returns
-returns c =
+pub returns-clause-laid : goal.returns-clause-laid
+returns-clause-laid c =
     let a = c.args in
     let q = sets_of (table a.network.now) in
-    let g = c.loop-k.invariant in
-    record { laid = adding-last g (lay-none a.train q a.path.now.offsets.now a.path.now.numbers.now c.loop-k.k a.to c.loop-k-test.false); within = omega (arith, g.within, g.long) }
+    adding-last c.loop-k.invariant (lay-none a.train q a.path.now.offsets.now a.path.now.numbers.now c.loop-k.k a.to c.loop-k-test.false)
