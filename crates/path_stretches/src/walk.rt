@@ -28,7 +28,7 @@ pub fn stretch_count(count: usize) -> usize
     count - 1
 }
 
-// The stretch from sample i - 1 to sample i. No match: where its arms meet the record is copied once more, 56 us of an extension by 1,000 links.
+// The stretch from sample i - 1 to sample i. No match: where its arms meet the record is copied once more, a twentieth of an extension.
 fn stretch_at(
     lines: Lines,
     pool: &[f64],
