@@ -72,7 +72,7 @@ fn borders(out: Sink, f: Frame, all: &[Border]) {
 }
 
 // The number of a link from x on, where there is room for it in the width.
-fn number(out: Sink, x: f64, width: f64, link: u32) {
+fn link_number(out: Sink, x: f64, width: f64, link: u32) {
     let digits = 8.0 * f64::from(digit_count(link as u64));
     if width < digits + 4.0 {
         return;
@@ -93,7 +93,7 @@ fn numbers(out: Sink, f: Frame, all: &[Border]) {
             None => f.last,
         };
         let x = f.across(border.offset);
-        number(out, x, f.across(end) - x, border.link);
+        link_number(out, x, f.across(end) - x, border.link);
     }
 }
 
