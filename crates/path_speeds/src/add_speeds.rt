@@ -26,7 +26,7 @@ pub fn link_finite(
     requires i_value { spec.few_at train (spec.sets_of (table network.now)) i ≡ true }
     ensures { result ≡ spec.finite_at train length.0 (spec.sets_of (table network.now)) base.0 i }
 {
-    let Some(s) = applying_set(network.sets, network.codes, network.values, i, train) else {
+    let Some(s) = applying_set(network, i, train) else {
         return true;
     };
     limits_finite(network.limits, s, base, length, train.speed_max)
@@ -39,7 +39,7 @@ pub fn link_limit_count(network: &Network, i: usize, train: TrainParams) -> usiz
     ensures count { result ≡ spec.count_at train (spec.sets_of (table network.now)) i }
     ensures upper_bound { result < 2 ^ 32 }
 {
-    let Some(s) = applying_set(network.sets, network.codes, network.values, i, train) else {
+    let Some(s) = applying_set(network, i, train) else {
         return 0;
     };
     limits_count(network.limits, s, train.speed_max)
@@ -61,7 +61,7 @@ pub fn add_speeds(
     ensures { Becomes speeds.old speeds.new
         (spec.lay_all (points_of speeds.old) (spec.laying_at train length.0 (spec.sets_of (table network.now)) base.0 i)) }
 {
-    let Some(s) = applying_set(network.sets, network.codes, network.values, i, train) else {
+    let Some(s) = applying_set(network, i, train) else {
         return;
     };
     let top = train.speed_max;

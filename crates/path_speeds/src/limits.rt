@@ -5,6 +5,7 @@ ghost use Rattle.link.specs.Table.{limit_of, set_at, set_for};
 ghost use Rattle.path_speeds.specs.Limits as spec;
 
 use link::cat_power::speed_limit_at;
+use link::network::Network;
 use link::speed_set::{SpeedSet, set_for};
 use link::train_params::{TrainParams, speed_set_applies};
 use si::{Length, Velocity};
@@ -12,24 +13,18 @@ use speed::speed_column::SpeedColumn;
 use speed::speed_limit::SpeedLimit;
 
 // The set of link i for the train, if its conditions hold.
-pub fn applying_set(
-    sets: &[u32],
-    codes: &[u32],
-    values: &[f64],
-    i: usize,
-    train: TrainParams,
-) -> Option<SpeedSet>
+pub fn applying_set(network: &Network, i: usize, train: TrainParams) -> Option<SpeedSet>
     requires i_bound { i < 2 ^ 40 }
-    requires train_type_value { spec.few_conditions (set_for (set_at sets.now i) train.train_type) ≡ true }
-    ensures { result ≡ spec.applying_set train sets.now codes.now values.now i }
+    requires train_type_value { spec.few_conditions (set_for (set_at network.now.sets.now i) train.train_type) ≡ true }
+    ensures { result ≡ spec.applying_set train network.now.sets.now network.now.codes.now network.now.values.now i }
 {
     let kind = train.train_type;
-    let Some(s) = set_for(sets, i, kind) else {
+    let Some(s) = set_for(network.sets, i, kind) else {
         return None;
     };
     let first = s.params_first as usize;
     let count = s.params_count as usize;
-    if speed_set_applies(codes, values, first, count, train) {
+    if speed_set_applies(network.codes, network.values, first, count, train) {
         return Some(s);
     }
     None

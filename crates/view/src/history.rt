@@ -87,7 +87,7 @@ fn applying(network: &Network, i: u32, train: TrainParams) -> Option<SpeedSet>
     if 64 < s.params_count {
         return None;
     }
-    applying_set(network.sets, network.codes, network.values, number, train)
+    applying_set(network, number, train)
 }
 
 // The limits of a link point's link, behind the first n.
