@@ -1,7 +1,7 @@
 -- Stretches laid on the records of a column: one stored, one laid, and those that are left.
 use Prim.Native.Nat.{ℕ, suc, ◌+◌, ◌-◌, ◌*◌, ◌≤◌, ◌<◌}
 use native.Mathlib.Omega.{arith}
-use mathlib.Core.Path.{◌≡◌, refl, sym, ap, ap₂, ◌∙◌}
+use mathlib.Core.Path.{◌≡◌, refl, sym, ap, ap₂, ◌∙◌, subst}
 use mathlib.Core.Bool.{Bool}
 use mathlib.Core.List.{List, [], ◌∷◌}
 use lib.ListN.{length, get_or, set, length-append, length-set}
@@ -14,18 +14,21 @@ use Rattle.column.specs.Entries.{filled}
 use Rattle.column.specs.Records.{flat, record_at, put_record}
 use Rattle.column.specs.declared.Three.{Three}
 use Rattle.column.proofs.ByEntry.{three-entries, three-put}
-use Rattle.column.proofs.Bridge.{length-records, read-filled, put-filled, push-filled}
+use Rattle.column.proofs.Filling.{length-filled}
+use Rattle.column.proofs.Bridge.{length-flat, records-flat, read-filled, put-filled, push-filled}
 use Rattle.lookup.specs.declared.path_res_coeff.PathResCoeff.{PathResCoeff}
 use Rattle.lookup.specs.Coeff.{triple, coeffs, no_coeff, res_coeff_record, stands_at, coefficient_of, net_of}
-use Rattle.lookup.proofs.Coeffs.{triple-lawful}
+use Rattle.lookup.proofs.Coeffs.{triple-lawful, length-coeffs}
 use Rattle.link.specs.declared.train_params.TrainParams.{TrainParams}
 use Rattle.link.specs.Lists.{up_from}
 use Rattle.link.specs.Table.{Sample}
 use Rattle.path.specs.Records.{last_coeff}
 use Rattle.path_stretches.specs.declared.stretch.Stretch.{Stretch}
-use Rattle.path_stretches.specs.Stretches.{stretch_step, flat_stretch, stretches, given, with_coefficient, lay_stretch, lay_stretches, Laid}
+use Rattle.path_stretches.specs.Stretches.{stretch_step, flat_stretch, stretches, given, with_coefficient, lay_stretch, lay_stretches}
+use Rattle.path_stretches.specs.declared.coeff_column.CoeffColumn.{CoeffColumn}
+use Rattle.path_stretches.specs.Column.{Holds}
+use Rattle.path_stretches.specs.Becomes.{coeffs_of, Becomes}
 use Rattle.path_stretches.proofs.StretchSteps.{stretches_at, stretches-more, stretches-none, stretches-flat, stretches-all}
-use Rattle.path.proofs.Counts.{last-record}
 
 -- ---- one stretch stored
 
@@ -95,60 +98,66 @@ module _ (gs : List PathResCoeff) (s : Stretch) where
       ∙ ap (λ (k : ℕ). put_record triple (filled +0 n (flat triple (set gs i g))) k t) (sym e)
       ∙ push-filled triple triple-lawful +0 n (set gs i g) t (omega arith)
 
--- ---- those that are left
+-- ---- a column that holds records
 
--- a column of `size` entries holds n records; with the stretches `rest` laid on them they are `whole`
-pub record Going (col : List Float) (n size : ℕ) (rest : List Stretch) (whole : List PathResCoeff) : Type 0 where
-  pub records : List PathResCoeff
-  pub laid : Laid col n size records
-  pub same : lay_stretches records rest ≡ whole
+pub holds-coeffs : (c : List Float) (gs : List PathResCoeff) (n : ℕ) → Holds c gs → n ≡ length gs → coeffs n c ≡ gs
+unfolding filled
+holds-coeffs c gs n h e = ap (λ (k : ℕ). coeffs k c) e ∙ ap (coeffs (length gs)) h.is ∙ records-flat triple triple-lawful gs _
 
--- none laid yet
-pub going_start : (col : List Float) (m : ℕ) {size : ℕ} {rest : List Stretch} → col ≡ filled +0 size (flat triple (coeffs m col)) → Going col m size rest (lay_stretches (coeffs m col) rest)
-going_start col m h = record { records = coeffs m col; laid = record { count = sym (length-records triple triple-lawful m col); is = h }; same = refl }
+module _ (c : List Float) (n : ℕ) (held : Holds c (coeffs n c)) where
+  pub some-coeffs : 0 < n
+  some-coeffs = omega (arith, held.some, length-coeffs n c)
 
--- one laid
-going_more : {col l : List Float} {n size : ℕ} {s : Stretch} {rest : List Stretch} {whole : List PathResCoeff}
-    → Going col n size (s ∷ rest) whole → 0 < n → 3 * (n + 1) ≤ size → l ≡ stored_at col n s → Going l (n + 1) size rest whole
-unfolding lay_stretches
-going_more {col} {l} {n} {size} {s} g some room e =
-    let gs = g.records in
-    let c = g.laid.count in
-    record {
-      records = lay_stretch gs s;
-      laid = record {
-        count = ap (λ (k : ℕ). k + 1) c ∙ sym (length-lay gs s);
-        is = e ∙ ap₂ (λ (x : List Float) (k : ℕ). stored_at x k s) g.laid.is c ∙ lay-filled gs s size (omega arith) (omega arith);
-      };
-      same = g.same;
-    }
+  pub fits-coeffs : 3 * n ≤ length c
+  fits-coeffs = omega (arith, held.fits, length-coeffs n c)
 
--- none left
-going-none : {col : List Float} {n size : ℕ} {whole : List PathResCoeff} → Going col n size [] whole → Laid col n size whole
-unfolding lay_stretches
-going-none g = rw g.same at g.laid
+  laid : {d : List Float} (s : Stretch) → 3 * (n + 1) ≤ length c → d ≡ stored_at c n s → Holds d (lay_stretch (coeffs n c) s)
+  laid {d} s room e =
+      let gs = coeffs n c in
+      let l : length gs ≡ n = length-coeffs n c in
+      let more = length-lay gs s in
+      let is : d ≡ filled +0 (length c) (flat triple (lay_stretch gs s)) = e ∙ ap₂ (λ (x : List Float) (k : ℕ). stored_at x k s) held.is (sym l) ∙ lay-filled gs s (length c) held.some (omega arith) in
+      let k : length d ≡ length c = ap length is ∙ length-filled +0 (length c) (flat triple (lay_stretch gs s)) (omega (arith, length-flat triple triple-lawful (lay_stretch gs s))) in
+      record { some = omega arith; fits = omega arith; is = is ∙ ap (λ (j : ℕ). filled +0 j (flat triple (lay_stretch gs s))) (sym k) }
 
--- ---- those of a link
-module _ (step : Float → Sample → Sample → Stretch) (at : ℕ → Sample) (end : ℕ) {col : List Float} {n size : ℕ} {whole : List PathResCoeff} (net : Float) (i : ℕ) (g : Going col n size (stretches_at step at end net i) whole) where
+  -- the records after it, for the next call
+  pub next-laid : {d : List Float} (s : Stretch) → 3 * (n + 1) ≤ length c → d ≡ stored_at c n s → (coeffs (n + 1) d ≡ lay_stretch (coeffs n c) s) × Holds d (coeffs (n + 1) d)
+  next-laid {d} s room e =
+      let h = laid s room e in
+      let f = holds-coeffs d (lay_stretch (coeffs n c) s) (n + 1) h (omega (arith, length-lay (coeffs n c) s, length-coeffs n c)) in
+      (f, subst (Holds d) (sym f) h)
+
+-- ---- one change after another
+
+pub becomes-as : {c d : CoeffColumn} {hs : List PathResCoeff} (gs : List PathResCoeff) → Becomes c d hs → hs ≡ gs → Becomes c d gs
+becomes-as {c} {d} gs h e = subst (Becomes c d) e h
+
+pub becomes-on : {b c d : CoeffColumn} {hs gs : List PathResCoeff} → Becomes b c hs → Becomes c d gs → Becomes b d (coeffs_of d)
+becomes-on g h = record { same = h.same ∙ g.same; long = h.long ∙ g.long; holds = refl }
+
+-- ---- the stretches of a link
+module _ (step : Float → Sample → Sample → Stretch) (at : ℕ → Sample) (end : ℕ) (net : Float) (i : ℕ) (gs : List PathResCoeff) where
   -- one laid
-  pub going_next : {l : List Float} {s : Stretch} → i < end → 0 < n → 3 * (n + 1) ≤ size → s ≡ step net (at (i - 1)) (at i) → l ≡ stored_at col n s → Going l (n + 1) size (stretches_at step at end s.net.0 (i + 1)) whole
-  going_next h some room e k = rw e (going_more (rw (stretches-more step at end net i h) at g) some room (k ∙ ap (stored_at col n) e))
+  pub lay-next : {s : Stretch} → i < end → s ≡ step net (at (i - 1)) (at i) → lay_stretches gs (stretches_at step at end net i) ≡ lay_stretches (lay_stretch gs s) (stretches_at step at end s.net.0 (i + 1))
+  unfolding lay_stretches
+  lay-next h e = rw e (ap (lay_stretches gs) (stretches-more step at end net i h))
 
   -- none left
-  pub going_end : end ≤ i → Laid col n size whole
-  going_end h = going-none (rw (stretches-none step at end net i h) at g)
+  pub lay-none : end ≤ i → lay_stretches gs (stretches_at step at end net i) ≡ gs
+  unfolding lay_stretches
+  lay-none h = ap (lay_stretches gs) (stretches-none step at end net i h)
 
-module _ (curves : Bool) (train : TrainParams) (base length : Float) (at : ℕ → Sample) (first count : ℕ) (col : List Float) (m : ℕ) {g : PathResCoeff} (some : 0 < m) (last : g ≡ record_at triple col (m - 1)) where
-  -- the stretches of `lay_stretches` begin with the net value that the code reads
-  net-read : stretches curves train base (net_of (last_coeff (coeffs m col))) length (up_from at first count) ≡ stretches curves train base (net_of g) length (up_from at first count)
-  net-read = ap (λ (h : PathResCoeff). stretches curves train base (net_of h) length (up_from at first count)) (last-record m col some ∙ sym last)
-
+module _ (curves : Bool) (train : TrainParams) (base length : Float) (at : ℕ → Sample) (first count : ℕ) (gs : List PathResCoeff) {g : PathResCoeff} (last : g ≡ last_coeff gs) where
   abbrev all : List PathResCoeff
-  all = lay_stretches (coeffs m col) (stretches curves train base (net_of (last_coeff (coeffs m col))) length (up_from at first count))
+  all = lay_stretches gs (stretches curves train base (net_of (last_coeff gs)) length (up_from at first count))
 
-  pub laid-flat : {l : List Float} {size : ℕ} {s : Stretch} → col ≡ filled +0 size (flat triple (coeffs m col)) → 3 * (m + 1) ≤ size → count ≡ 0 → s ≡ flat_stretch base (net_of g) length → l ≡ stored_at col m s → Laid l (m + 1) size all
-  laid-flat is room none e k =
-      rw (net-read ∙ stretches-flat curves train base (net_of g) length at first count none, ← e) (going-none (going_more (going_start col m is) some room k))
+  -- they begin with the net value that the code reads
+  net-read : all ≡ lay_stretches gs (stretches curves train base (net_of g) length (up_from at first count))
+  net-read = ap (λ (h : PathResCoeff). lay_stretches gs (stretches curves train base (net_of h) length (up_from at first count))) (sym last)
 
-  pub laid-all : {l : List Float} {n size : ℕ} → 0 < count → Laid l n size (lay_stretches (coeffs m col) (stretches_at (stretch_step curves train base) at (first + count) (net_of g) (first + 1))) → Laid l n size all
-  laid-all more h = rw (net-read ∙ stretches-all curves train base (net_of g) length at first count more) h
+  pub lay-flat : {s : Stretch} → count ≡ 0 → s ≡ flat_stretch base (net_of g) length → lay_stretch gs s ≡ all
+  unfolding lay_stretches
+  lay-flat none e = ap (lay_stretch gs) e ∙ sym (net-read ∙ ap (lay_stretches gs) (stretches-flat curves train base (net_of g) length at first count none))
+
+  pub lay-all : 0 < count → lay_stretches gs (stretches_at (stretch_step curves train base) at (first + count) (net_of g) (first + 1)) ≡ all
+  lay-all more = sym (net-read ∙ ap (lay_stretches gs) (stretches-all curves train base (net_of g) length at first count more))
