@@ -1,5 +1,5 @@
 -- Grades and curves of the listed links: those of one link, and those that are left.
-use Prim.Native.Nat.{ℕ, ◌+◌, ◌*◌, ◌≤◌, ◌<◌}
+use Prim.Native.Nat.{ℕ, ◌+◌}
 use native.Mathlib.Omega.{arith}
 use mathlib.Core.Path.{◌≡◌, sym, ap, ap₂, ◌∙◌}
 use mathlib.Core.Bool.{Bool, true, false}
@@ -9,10 +9,9 @@ use lib.Ieee.{Float}
 use Rattle.ieee.specs.Number.{+0}
 use Rattle.column.specs.Entries.{filled}
 use Rattle.column.specs.Records.{flat}
-use Rattle.column.proofs.Bridge.{length-records, records-flat}
 use Rattle.lookup.specs.declared.path_res_coeff.PathResCoeff.{PathResCoeff}
-use Rattle.lookup.specs.Coeff.{triple, coeffs, net_of}
-use Rattle.lookup.proofs.Coeffs.{triple-lawful}
+use Rattle.lookup.specs.Coeff.{triple, net_of}
+use Rattle.lookup.proofs.Coeffs.{length-coeffs}
 use Rattle.link.specs.declared.network.LinkNumbers.{LinkNumbers}
 use Rattle.link.specs.declared.train_params.TrainParams.{TrainParams}
 use Rattle.link.specs.Lists.{up_from}
@@ -22,7 +21,10 @@ use Rattle.path.specs.declared.lines.Lines.{Lines}
 use Rattle.path.specs.declared.lines.Lines.TheVariants.{Grades, Curves}
 use Rattle.path.specs.Sound.{is_curves}
 use Rattle.path_stretches.specs.Stretches.{stretches, stretch_count, lay_stretches, Laid}
+use Rattle.path_stretches.specs.declared.coeff_column.CoeffColumn.{CoeffColumn}
+use Rattle.path_stretches.specs.Becomes.{coeffs_of, HasRoom, Becomes}
 use Rattle.path_stretches.proofs.StretchSteps.{count-range}
+use Rattle.path_stretches.proofs.StretchesLaid.{becomes-as, becomes-on}
 use Rattle.path_join.specs.Listed.{Rises, length_at, samples_at, records_in, sum_of, grade_end}
 use Rattle.path_join.specs.Joined.{join_records}
 use Rattle.path_join.specs.ByKind.{joined_records}
@@ -63,65 +65,57 @@ lines-room links elevs headings i Curves {l} e f = rw (f, e) (count-range (sampl
 
 -- laid
 pub lines-joined :
-    (train : TrainParams) (r : Rises) (headings : List Float) (base : Float) (rs : List PathResCoeff) (i : ℕ) (lines : Lines) {l : LinkNumbers} {o : Float} {p : List Float × ℕ × ℕ} {col : List Float} {n size : ℕ}
+    (train : TrainParams) (r : Rises) (headings : List Float) (base : Float) (rs : List PathResCoeff) (i : ℕ) (lines : Lines) {l : LinkNumbers} {o : Float} {p : List Float × ℕ × ℕ} {c d : CoeffColumn}
     → l ≡ numbers_of r.links i
     → o ≡ length_at r.lengths i
     → p ≡ samples_of lines l r.elevs headings
-    → Laid col n size (lay_stretches rs (stretches (is_curves lines) train base (net_of (last_coeff rs)) o (read p)))
-    → Laid col n size (join_records (is_curves lines) train r headings base rs i)
+    → Becomes c d (lay_stretches rs (stretches (is_curves lines) train base (net_of (last_coeff rs)) o (read p)))
+    → Becomes c d (join_records (is_curves lines) train r headings base rs i)
 unfolding join_records
 lines-joined train r headings base rs i lines e f g h = rw (f, samples-read r headings i lines e g) at h
 
 -- ---- those that are left
 
--- what is left is read back
-laid-coeffs : {col : List Float} {n size : ℕ} {gs : List PathResCoeff} → Laid col n size gs → coeffs n col ≡ gs
-unfolding filled
-laid-coeffs {gs = gs} h = ap₂ (λ (k : ℕ) (c : List Float). coeffs k c) h.count h.is ∙ records-flat triple triple-lawful gs _
+-- A column that began as `start`; with the records of the links `left` from base on they are `goal`.
+pub record RecordsLeft (curves : Bool) (train : TrainParams) (r : Rises) (headings : List Float) (start : CoeffColumn) (goal : List PathResCoeff) (left : List ℕ) (c : CoeffColumn) (base : Float) : Type 0 where
+  pub becomes : Becomes start c (coeffs_of c)
+  pub room : HasRoom (sum_of (records_in curves r.links) left) c
+  pub is : joined_records curves train r headings base (coeffs_of c) left ≡ goal
 
--- A column of `size` entries holds n records; with those of the links `left` from base on they are `goal`.
-pub record RecordsLeft (curves : Bool) (train : TrainParams) (r : Rises) (headings : List Float) (size : ℕ) (goal : List PathResCoeff) (left : List ℕ) (col : List Float) (n : ℕ) (base : Float) : Type 0 where
-  pub kept : length col ≡ size
-  pub some : 0 < n
-  pub room : 3 * (n + sum_of (records_in curves r.links) left) ≤ size
-  pub held : col ≡ filled +0 (length col) (flat triple (coeffs n col))
-  pub is : joined_records curves train r headings base (coeffs n col) left ≡ goal
-
-module _ {curves : Bool} {train : TrainParams} {r : Rises} {headings : List Float} {size : ℕ} {goal : List PathResCoeff} {left : List ℕ} {col : List Float} {n : ℕ} {base : Float} (g : RecordsLeft curves train r headings size goal left col n base) where
+module _ {curves : Bool} {train : TrainParams} {r : Rises} {headings : List Float} {start : CoeffColumn} {goal : List PathResCoeff} {left : List ℕ} {c : CoeffColumn} {base : Float} (g : RecordsLeft curves train r headings start goal left c base) where
   -- one link has room
-  pub records-room : {i : ℕ} {rest : List ℕ} → left ≡ i ∷ rest → 3 * (n + records_in curves r.links i) ≤ length col
-  records-room {i} {rest} e = omega (arith, g.room, g.kept, sum-next (records_in curves r.links) e)
+  pub records-room : {i : ℕ} {rest : List ℕ} → left ≡ i ∷ rest → HasRoom (records_in curves r.links i) c
+  records-room {i} {rest} e = omega (arith, g.room, sum-next (records_in curves r.links) e)
 
   -- one link more
   pub records-next :
-      {col' : List Float} {n' i : ℕ} {base' : Float} {rest : List ℕ}
+      {d : CoeffColumn} {i : ℕ} {base' : Float} {rest : List ℕ}
       → left ≡ i ∷ rest
-      → length col' ≡ length col
-      → Laid col' n' (length col) (join_records curves train r headings base (coeffs n col) i)
+      → Becomes c d (join_records curves train r headings base (coeffs_of c) i)
       → base' ≡ grade_end r base i
-      → RecordsLeft curves train r headings size goal rest col' n' base'
+      → RecordsLeft curves train r headings start goal rest d base'
   unfolding joined_records
-  records-next {col'} {n'} {i} {base'} {rest} e kept h f =
-      let rs = join_records curves train r headings base (coeffs n col) i in
-      let same : coeffs n' col' ≡ rs = laid-coeffs h in
-      let count : n' ≡ n + records_in curves r.links i = h.count ∙ length-join curves train r headings base (coeffs n col) i ∙ ap (λ (k : ℕ). k + records_in curves r.links i) (length-records triple triple-lawful n col) in
+  records-next {d} {i} {base'} {rest} e h f =
+      let count : d.count ≡ c.count + records_in curves r.links i =
+      sym (length-coeffs d.count d.col.now) ∙ ap length h.holds ∙ length-join curves train r headings base (coeffs_of c) i ∙ ap (λ (k : ℕ). k + records_in curves r.links i) (length-coeffs c.count c.col.now) in
       record {
-        kept = kept ∙ g.kept;
-        some = omega (arith, g.some);
-        room = omega (arith, g.room, sum-next (records_in curves r.links) e);
-        held = h.is ∙ ap₂ (λ (k : ℕ) (gs : List PathResCoeff). filled +0 k (flat triple gs)) (sym kept) (sym same);
+        becomes = becomes-on g.becomes h;
+        room = omega (arith, g.room, h.long, sum-next (records_in curves r.links) e);
         is =
-            ap₂ (λ (x : Float) (gs : List PathResCoeff). joined_records curves train r headings x gs rest) f same
-            ∙ sym (ap (joined_records curves train r headings base (coeffs n col)) e)
+            ap₂ (λ (x : Float) (gs : List PathResCoeff). joined_records curves train r headings x gs rest) f h.holds
+            ∙ sym (ap (joined_records curves train r headings base (coeffs_of c)) e)
             ∙ g.is;
       }
 
   -- no link is left
-  pub records-done : left ≡ [] → Laid col n size goal
+  pub records-done : left ≡ [] → Becomes start c goal
   unfolding joined_records
-  records-done e =
-      let same : coeffs n col ≡ goal = sym (ap (joined_records curves train r headings base (coeffs n col)) e) ∙ g.is in
-      record {
-        count = sym (length-records triple triple-lawful n col) ∙ ap length same;
-        is = g.held ∙ ap₂ (λ (k : ℕ) (gs : List PathResCoeff). filled +0 k (flat triple gs)) g.kept same;
-      }
+  records-done e = becomes-as goal g.becomes (sym (ap (joined_records curves train r headings base (coeffs_of c)) e) ∙ g.is)
+
+-- what is left of the lent column
+pub laid-of : {start c : CoeffColumn} {gs : List PathResCoeff} → Becomes start c gs → Laid c.col.now c.count (length start.col.now) gs
+laid-of {start} {c} h =
+    record {
+      count = sym (length-coeffs c.count c.col.now) ∙ ap length h.holds;
+      is = c.holds.is ∙ ap₂ (λ (k : ℕ) (gs : List PathResCoeff). filled +0 k (flat triple gs)) h.long h.holds;
+    }

@@ -7,6 +7,7 @@ ghost use Rattle.lookup.specs.Coeff.{triple, coeffs};
 ghost use Rattle.path.specs.Records.{link_points, power_limits};
 ghost use Rattle.path.specs.Sound.{is_curves};
 ghost use Rattle.path_stretches.specs.Stretches.{Laid};
+ghost use Rattle.path_stretches.specs.Becomes.{coeffs_of, HasRoom, Becomes};
 ghost use Rattle.path_stretches.specs.Powers.{HoldsPowers};
 ghost use Rattle.path_join.specs.Listed.{rises, grade_end, records_in, powers_in, sum_of};
 ghost use Rattle.path_join.specs.Joined as spec;
@@ -18,8 +19,9 @@ use link::network::{Network, link_numbers};
 use link::train_params::TrainParams;
 use lookup::path_res_coeff::{PathResCoeff, coeff_at, put_coeff};
 use path::lines::Lines;
+use path_stretches::coeff_column::CoeffColumn;
 use path_stretches::powers::lay_powers;
-use path_stretches::walk::{lay_stretches, stretch_count};
+use path_stretches::walk::stretch_count;
 use si::Length;
 
 // Where the grades of link i end that begin at base.
@@ -136,33 +138,52 @@ pub fn join_records(
         (rises network.now.links.now network.now.lengths.now network.now.elevs.now) network.now.headings.now begin.0 (coeffs m col.old)
         list.now) }
 {
-    let mut n = m;
+    let mut records = CoeffColumn {
+        col: &mut *col,
+        count: m,
+    };
+    join_listed(&mut records, lines, begin, list, network, train);
+    records.count
+}
+
+// The grades, or the curves, of the listed links, from begin on.
+fn join_listed(
+    records: &mut CoeffColumn,
+    lines: Lines,
+    begin: Length,
+    list: &[u32],
+    network: &Network,
+    train: TrainParams,
+)
+    requires list_len_bound { length list.now ≤ 1025 }
+    requires room { HasRoom (sum_of (records_in (is_curves lines) network.now.links.now) list.now) records.old }
+    ensures { Becomes records.old records.new
+        (kinds.joined_records (is_curves lines) train
+        (rises network.now.links.now network.now.lengths.now network.now.elevs.now) network.now.headings.now begin.0 (coeffs_of records.old)
+        list.now) }
+{
     let mut base = begin;
     for i in list {
         let link = *i as usize;
-        n = join_record(&mut *col, n, lines, base, link, network, train);
+        join_record(&mut *records, lines, base, link, network, train);
         base = grade_end(network, base, link);
     }
-    n
 }
 
 // The grades, or the curves, of link i, from base on.
 fn join_record(
-    col: &mut [f64],
-    m: usize,
+    records: &mut CoeffColumn,
     lines: Lines,
     base: Length,
     i: usize,
     network: &Network,
     train: TrainParams,
-) -> usize
-    requires m_nonzero { 0 < m }
+)
     requires i_bound { i < 2 ^ 40 }
-    requires i_in_bounds { 3 * (m + records_in (is_curves lines) network.now.links.now i) ≤ length col.old }
-    requires col_value { col.old ≡ filled +0 (length col.old) (flat triple (coeffs m col.old)) }
-    ensures { Laid col.new result (length col.old)
+    requires room { HasRoom (records_in (is_curves lines) network.now.links.now i) records.old }
+    ensures { Becomes records.old records.new
         (spec.join_records (is_curves lines) train
-        (rises network.now.links.now network.now.lengths.now network.now.elevs.now) network.now.headings.now base.0 (coeffs m col.old) i) }
+        (rises network.now.links.now network.now.lengths.now network.now.elevs.now) network.now.headings.now base.0 (coeffs_of records.old) i) }
 {
     let l = link_numbers(network.links, i);
     let length = Length(column::get(network.lengths, i));
@@ -178,7 +199,7 @@ fn join_record(
             l.headings_count as usize,
         ),
     };
-    lay_stretches(&mut *col, m, lines, pool, first, count, base, length, train)
+    records.lay_stretches(lines, pool, first, count, base, length, train);
 }
 
 // The power limits of the listed links behind the m of two columns; their count afterwards.

@@ -37,8 +37,7 @@ loop-i-preserved c =
     let l = c.loop-i in
     let step = stretch_step (is_curves a.lines) a.train a.base.0 in
     let end = a.first + a.count in
-    let lay = c.lay-in-loop-i.ensures in
-    (
+    let lay = c.lay-in-loop-i.ensures in (
       omega (arith, lay.count),
       becomes-on l.invariant.1 lay.becomes,
       ap (λ (gs : List PathResCoeff). lay_stretches gs (stretches_at step (sample_at a.pool.now) end c.stretch_at-s.result.net.0 (l.i + 1))) lay.becomes.holds ∙ sym (lay-next step (sample_at a.pool.now) end l.net.0 l.i (coeffs_of l.self) (omega arith) c.stretch_at-s.ensures) ∙ l.invariant.2,
