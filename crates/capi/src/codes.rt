@@ -53,10 +53,7 @@ fn judged_length(t: Train) -> f64
     ensures { result ≡ spec.judged_length t }
 {
     let known = t.train_type <= 6;
-    if known {
-        return t.length.0;
-    }
-    0.0 / 0.0
+    if known { t.length.0 } else { f64::NAN }
 }
 
 // The train's record with its type; one of unknown type has no finite length.
