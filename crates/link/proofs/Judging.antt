@@ -81,5 +81,5 @@ pub ruleset literal_zero = (zero-literal)
 -- ---- link numbers
 -- number by number, n of them
 pub in-order : (ns : Numbers) (n : ℕ) → n ≡ length (numbers_in ns) → up_from (number_in ns) 0 n ≡ numbers_in ns
-in-order (Listed list) n e = ap (up_from (number_at false list.now) 0) (e ∙ length-range (number_at false list.now) 0 (length list.now))
+in-order (Listed list count) n e = ap (up_from (number_at false list.now) 0) (e ∙ length-range (number_at false list.now) 0 count)
 in-order (OfPoints list count) n e = ap (up_from (number_at true list.now) 0) (e ∙ length-range (number_at true list.now) 0 count)

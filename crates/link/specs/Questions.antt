@@ -114,11 +114,11 @@ numbers points list count = up_from (number_at points list) 0 count
 
 -- the numbers as the code passes them
 abbrev pub number_in : Numbers → ℕ → ℕ
-number_in (Listed list) k = number_at false list.now k
+number_in (Listed list count) k = number_at false list.now k
 number_in (OfPoints list count) k = number_at true list.now k
 
 abbrev pub numbers_in : Numbers → List ℕ
-numbers_in (Listed list) = numbers false list.now (length list.now)
+numbers_in (Listed list count) = numbers false list.now count
 numbers_in (OfPoints list count) = numbers true list.now count
 
 unfoldable pub question4 : List ℕ → List Float → List ℕ → List ℕ → Option ℕ

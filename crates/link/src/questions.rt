@@ -7,10 +7,10 @@ use crate::network::{Network, link_follows, link_numbers};
 use crate::speed_set::set_for;
 use crate::train_params::TrainType;
 
-// Link numbers: a plain list, or those of the first so many link points, four numbers to a point.
+// The first so many link numbers of a plain list, or of link points, four numbers to a point.
 #[derive(Clone, Copy)]
 pub enum Numbers<'a> {
-    Listed(&'a [u32]),
+    Listed(&'a [u32], usize),
     OfPoints(&'a [u32], usize),
 }
 
@@ -27,7 +27,7 @@ impl Numbers<'_> {
         ensures { result ≡ length (spec.numbers_in self.now) }
     {
         match self {
-            Numbers::Listed(list) => list.len(),
+            Numbers::Listed(_, count) => *count,
             Numbers::OfPoints(_, count) => *count,
         }
     }
@@ -37,7 +37,7 @@ impl Numbers<'_> {
         ensures { result ≡ spec.number_in self.now k }
     {
         match self {
-            Numbers::Listed(list) => column::get(*list, k),
+            Numbers::Listed(list, _) => column::get(*list, k),
             Numbers::OfPoints(list, _) => point_number(*list, k),
         }
     }

@@ -104,7 +104,7 @@ fn param_holds(train: TrainParams, code: u32, p: Option<SpeedParam>) -> bool
     }
 }
 
-// Whether condition i of the pool holds for the train. No method of Network: crate view lends the sets, the codes and the values alone.
+// Whether condition i of the pool holds for the train. It reads the codes and the values alone.
 pub fn condition_holds(codes: &[u32], values: &[f64], i: usize, train: TrainParams) -> bool
     requires { i < 2 ^ 40 }
     ensures { result ≡ holds train (condition_at codes.now values.now i) }

@@ -38,7 +38,7 @@ pub fn set_at(sets: &[u32], i: usize, p: usize) -> SpeedSet
     }
 }
 
-// The single set of link i, or the one for the train's type. No method of Network: crate view lends the sets alone.
+// The single set of link i, or the one for the train's type. It reads the sets alone.
 #[tactic(auto, unfolding(crate::specs::Table::set_for))]
 pub fn set_for(sets: &[u32], i: usize, t: TrainType) -> Option<SpeedSet>
     requires { i < 2 ^ 40 }

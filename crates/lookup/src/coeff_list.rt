@@ -26,7 +26,7 @@ impl<'a> Model for CoeffList<'a> {
 }
 
 // Question 2 of a list searched alone: it is not empty, and the column holds its records.
-fn list_sound(col: &[f64], n: usize) -> bool
+pub fn list_sound(col: &[f64], n: usize) -> bool
     ensures { result ≡ list_sound n col.now }
 {
     0 < n && n <= col.len() / 3

@@ -96,7 +96,8 @@ fn extend_answer(
     let closed = p.is_finished;
     Question::Open.ask(!closed)?;
     let follows = follow_question(cols, p.link_count, list, network);
-    links_answer(&Numbers::Listed(list), follows, network, train.train_type)?;
+    let numbers = Numbers::Listed(list, list.len());
+    links_answer(&numbers, follows, network, train.train_type)?;
     sums_answer(p, train.length, train, list, cols, network)
 }
 

@@ -69,7 +69,7 @@ impl Edited<'_> {
     // The questions put to the table.
     fn judge(&self, list: &[u32]) -> Judged {
         let network = self.network();
-        let numbers = Numbers::Listed(list);
+        let numbers = Numbers::Listed(list, list.len());
         if let Some(p) = network.question4(&numbers) {
             return Judged(Some((4, p)));
         }
