@@ -6,7 +6,6 @@ ghost use Rattle.link.specs.Questions.{real_in, follows, set_formed, in_pools, w
 
 use crate::cat_power::limits_formed;
 use crate::elev::samples_formed;
-use crate::speed_set::set_at;
 use si::Length;
 
 // The link table, lent column by column: what each link has, and the pools that the links' firsts and counts point into.
@@ -130,10 +129,10 @@ impl Network<'_> {
         requires p_bound { p < 8 }
         ensures { result ≡ set_formed self.now.codes.now self.now.values.now self.now.limits.now (set_at self.now.sets.now i p) }
     {
-        if set_at(self.sets, i, p).present == 0 {
+        if self.set_at(i, p).present == 0 {
             return true;
         }
-        self.set_formed(set_at(self.sets, i, p))
+        self.set_formed(self.set_at(i, p))
     }
 
     // Question 6 of the eight set places of link i.

@@ -4,7 +4,6 @@ ghost use Rattle.link.specs.Table.{table};
 ghost use Rattle.link.specs.Questions as spec;
 
 use crate::network::{Network, link_follows, link_numbers};
-use crate::speed_set::set_for;
 use crate::train_params::TrainType;
 
 // The first so many link numbers of a plain list, or of link points, four numbers to a point.
@@ -82,7 +81,7 @@ impl Network<'_> {
         for k in 0..numbers.len() {
             let n = numbers.at(k);
             // this is the refusal with number 7, at place k
-            let Some(_) = set_for(self.sets, n as usize, t) else {
+            let Some(_) = self.set_for(n as usize, t) else {
                 return Some(k);
             };
         }

@@ -104,18 +104,18 @@ fn param_holds(train: TrainParams, code: u32, p: Option<SpeedParam>) -> bool
     }
 }
 
-// Whether condition i of the pool holds for the train. It reads the codes and the values alone.
-pub fn condition_holds(codes: &[u32], values: &[f64], i: usize, train: TrainParams) -> bool
-    requires { i < 2 ^ 40 }
-    ensures { result ≡ holds train (condition_at codes.now values.now i) }
-{
-    let kind = column::get(codes, 2 * i);
-    let code = column::get(codes, 2 * i + 1);
-    let v = column::get(values, i);
-    param_holds(train, code, speed_param(kind, v))
-}
-
 impl Network<'_> {
+    // Whether condition i of the pool holds for the train.
+    pub fn condition_holds(&self, i: usize, train: TrainParams) -> bool
+        requires { i < 2 ^ 40 }
+        ensures { result ≡ holds train (condition_at self.now.codes.now self.now.values.now i) }
+    {
+        let kind = column::get(self.codes, 2 * i);
+        let code = column::get(self.codes, 2 * i + 1);
+        let v = column::get(self.values, i);
+        param_holds(train, code, speed_param(kind, v))
+    }
+
     // Question 6 of condition i: its codes are known, and its value is finite.
     #[tactic(auto, unfolding(crate::specs::Condition::condition_formed))]
     pub fn condition_formed(&self, i: usize) -> bool

@@ -20,42 +20,42 @@ pub struct SpeedSet {
     pub limits_count: u32,
 }
 
-// Place p of link i.
-#[tactic(auto, unfolding(crate::specs::Table::set_at))]
-pub fn set_at(sets: &[u32], i: usize, p: usize) -> SpeedSet
-    requires i_bound { i < 2 ^ 40 }
-    requires p_bound { p < 8 }
-    ensures { result ≡ set_at sets.now i p }
-{
-    let k = 48 * i + 6 * p;
-    SpeedSet {
-        present: column::get(sets, k),
-        is_head_end: column::get(sets, k + 1),
-        params_first: column::get(sets, k + 2),
-        params_count: column::get(sets, k + 3),
-        limits_first: column::get(sets, k + 4),
-        limits_count: column::get(sets, k + 5),
-    }
-}
-
-// The single set of link i, or the one for the train's type. It reads the sets alone.
-#[tactic(auto, unfolding(crate::specs::Table::set_for))]
-pub fn set_for(sets: &[u32], i: usize, t: TrainType) -> Option<SpeedSet>
-    requires { i < 2 ^ 40 }
-    ensures { set_told result ≡ set_told (set_for (set_at sets.now i) t) }
-{
-    let single = set_at(sets, i, 0);
-    if single.present == 1 {
-        return Some(single);
-    }
-    let typed = set_at(sets, i, type_number(t) + 1);
-    if typed.present == 1 {
-        return Some(typed);
-    }
-    None
-}
-
 impl Network<'_> {
+    // Place p of link i.
+    #[tactic(auto, unfolding(crate::specs::Table::set_at))]
+    pub fn set_at(&self, i: usize, p: usize) -> SpeedSet
+        requires i_bound { i < 2 ^ 40 }
+        requires p_bound { p < 8 }
+        ensures { result ≡ set_at self.now.sets.now i p }
+    {
+        let k = 48 * i + 6 * p;
+        SpeedSet {
+            present: column::get(self.sets, k),
+            is_head_end: column::get(self.sets, k + 1),
+            params_first: column::get(self.sets, k + 2),
+            params_count: column::get(self.sets, k + 3),
+            limits_first: column::get(self.sets, k + 4),
+            limits_count: column::get(self.sets, k + 5),
+        }
+    }
+
+    // The single set of link i, or the one for the train's type.
+    #[tactic(auto, unfolding(crate::specs::Table::set_for))]
+    pub fn set_for(&self, i: usize, t: TrainType) -> Option<SpeedSet>
+        requires { i < 2 ^ 40 }
+        ensures { set_told result ≡ set_told (set_for (set_at self.now.sets.now i) t) }
+    {
+        let single = self.set_at(i, 0);
+        if single.present == 1 {
+            return Some(single);
+        }
+        let typed = self.set_at(i, type_number(t) + 1);
+        if typed.present == 1 {
+            return Some(typed);
+        }
+        None
+    }
+
     // Question 6 of `count` conditions from `first` on.
     fn conditions_formed(&self, first: usize, count: usize) -> bool
         requires { first + count < 2 ^ 40 }

@@ -5,7 +5,7 @@ ghost use Rattle.link.specs.Train.{type_number};
 ghost use Rattle.link.specs.Condition.{applies};
 ghost use Rattle.link.specs.Table.{condition_at};
 
-use crate::speed_param::condition_holds;
+use crate::network::Network;
 use si::{Length, Mass, Ratio, Velocity};
 
 #[derive(Clone, Copy, Debug, PartialEq, Eq)]
@@ -39,23 +39,19 @@ pub fn type_number(t: TrainType) -> usize
     t as usize
 }
 
-// A set applies if its first condition holds and the rest of the list applies; an empty list applies.
-pub fn speed_set_applies(
-    codes: &[u32],
-    values: &[f64],
-    first: usize,
-    left: usize,
-    train: TrainParams,
-) -> bool
-    requires left_bound { first + left < 2 ^ 40 }
-    requires left_bound_2 { left ≤ 64 }
-    ensures { result ≡ applies train (up_from (condition_at codes.now values.now) first left) }
-{
-    if left == 0 {
-        return true;
+impl Network<'_> {
+    // A set applies if its first condition holds and the rest of the list applies; an empty list applies. The rules have it as a recursion.
+    pub fn speed_set_applies(&self, first: usize, left: usize, train: TrainParams) -> bool
+        requires left_bound { first + left < 2 ^ 40 }
+        requires left_bound_2 { left ≤ 64 }
+        ensures { result ≡ applies train (up_from (condition_at self.now.codes.now self.now.values.now) first left) }
+    {
+        if left == 0 {
+            return true;
+        }
+        if self.condition_holds(first, train) {
+            return self.speed_set_applies(first + 1, left - 1, train);
+        }
+        false
     }
-    if condition_holds(codes, values, first, train) {
-        return speed_set_applies(codes, values, first + 1, left - 1, train);
-    }
-    false
 }

@@ -6,8 +6,8 @@ ghost use Rattle.path_speeds.specs.Limits as spec;
 
 use link::cat_power::speed_limit_at;
 use link::network::Network;
-use link::speed_set::{SpeedSet, set_for};
-use link::train_params::{TrainParams, speed_set_applies};
+use link::speed_set::SpeedSet;
+use link::train_params::TrainParams;
 use si::{Length, Velocity};
 use speed::speed_column::SpeedColumn;
 use speed::speed_limit::SpeedLimit;
@@ -19,12 +19,12 @@ pub fn applying_set(network: &Network, i: usize, train: TrainParams) -> Option<S
     ensures { result ≡ spec.applying_set train network.now.sets.now network.now.codes.now network.now.values.now i }
 {
     let kind = train.train_type;
-    let Some(s) = set_for(network.sets, i, kind) else {
+    let Some(s) = network.set_for(i, kind) else {
         return None;
     };
     let first = s.params_first as usize;
     let count = s.params_count as usize;
-    if speed_set_applies(network.codes, network.values, first, count, train) {
+    if network.speed_set_applies(first, count, train) {
         return Some(s);
     }
     None

@@ -7,7 +7,7 @@ ghost use Rattle.view.specs.History as spec;
 
 use link::cat_power::speed_limit_at;
 use link::network::Network;
-use link::speed_set::{SpeedSet, set_for};
+use link::speed_set::SpeedSet;
 use link::train_params::TrainParams;
 use path::columns::PathColumns;
 use path::link_point::{LinkPoint, link_point_at};
@@ -83,7 +83,7 @@ fn applying(network: &Network, i: u32, train: TrainParams) -> Option<SpeedSet>
     ensures { result ≡ spec.set_taken train network.now.sets.now network.now.codes.now network.now.values.now i }
 {
     let number = i as usize;
-    let s = set_for(network.sets, number, train.train_type)?;
+    let s = network.set_for(number, train.train_type)?;
     if 64 < s.params_count {
         return None;
     }

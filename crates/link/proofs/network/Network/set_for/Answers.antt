@@ -1,7 +1,7 @@
 -- `set_for`: the place of a type is one of the eight.
 use Rattle.std.proofs.Common.{arith}
 use Rattle.link.proofs.Formed.{type-below}
-use Rattle.link.proofs.speed_set.set_for.Goals as goal
+use Rattle.link.proofs.network.Network.set_for.Goals as goal
 
 pub overflow_add-type_number : goal.overflow_add-type_number
 overflow_add-type_number c = omega (arith, c.type_number.ensures, type-below c.args.t)
