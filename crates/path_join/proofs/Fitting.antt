@@ -10,6 +10,7 @@ use Rattle.link.specs.declared.train_params.TrainParams.{TrainParams}
 use Rattle.link.specs.Table.{LinkTable}
 use Rattle.path.specs.declared.path_tpc.PathTpc.{PathTpc}
 use Rattle.path.specs.Records.{Columns, fits_links, fits_grades, fits_curves, fits_speeds, fits_powers}
+use Rattle.path.specs.Sound.{within_bounds}
 use Rattle.path_speeds.specs.Limits.{sets_of, count_at}
 use Rattle.path_join.specs.Listed.{sum_of}
 use Rattle.path_join.specs.declared.fit.Counts.{Counts}
@@ -21,16 +22,20 @@ module _ (train : TrainParams) (t : LinkTable) (ns : List ℕ) (p : PathTpc) (c 
   unfolding records_fit
   too_long h = rw (lt-leb (p.link_count + length ns) 1025 (omega arith))
 
-  -- the answers of the five kinds; `sum` and `laid` are what the code counts
+  -- the counts of the path with the listed links; `sum` and `laid` are what the code counts
   pub all_fit :
-      {sum : Counts} {laid : ℕ} {points slopes bends speed drawn : Bool}
+      (finished : Bool)
+      → {sum : Counts} {laid : ℕ} {fit : Bool}
       → sum ≡ counts_of t.links ns
       → laid ≡ sum_of (count_at train (sets_of t)) ns
-      → points ≡ fits_links (p.link_count + length ns) c
-      → slopes ≡ fits_grades (p.grade_count + sum.grades) c
-      → bends ≡ fits_curves (p.curve_count + sum.curves) c
-      → speed ≡ fits_speeds (p.speed_count + 2 * laid) c
-      → drawn ≡ fits_powers (p.power_count + sum.powers) c
-      → (points && (slopes && (bends && (speed && drawn)))) ≡ records_fit train t ns p c
-  unfolding records_fit counts_of
-  all_fit e₁ e₂ e₃ e₄ e₅ e₆ e₇ = rw (e₃, e₄, e₅, e₆, e₇, e₁, e₂)
+      → fit ≡ within_bounds (record {
+        link_count = p.link_count + length ns;
+        grade_count = p.grade_count + sum.grades;
+        curve_count = p.curve_count + sum.curves;
+        speed_count = p.speed_count + 2 * laid;
+        power_count = p.power_count + sum.powers;
+        is_finished = finished;
+      }) c
+      → fit ≡ records_fit train t ns p c
+  unfolding records_fit counts_of within_bounds
+  all_fit finished e₁ e₂ e₃ = rw (e₃, e₁, e₂)

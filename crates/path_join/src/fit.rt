@@ -13,7 +13,7 @@ use link::network::{Network, link_numbers};
 use link::train_params::TrainParams;
 use path::columns::PathColumns;
 use path::path_tpc::PathTpc;
-use path::sound::within;
+use path::sound::within_bounds;
 use path_speeds::add_speeds::link_limit_count;
 use path_stretches::walk::stretch_count;
 
@@ -79,16 +79,14 @@ pub fn records_fit(
         return false;
     }
     let sum = sum_counts(list, network.links);
-    let laid = 2 * sum_limits(list, network, train);
-    let n = p.link_count + list.len();
-    let points = within(n, 1025, cols.offsets.len(), cols.numbers.len() / 4);
-    let n = p.grade_count + sum.grades;
-    let slopes = within(n, 16384, cols.grades.len() / 3, cols.grades.len() / 3);
-    let n = p.curve_count + sum.curves;
-    let bends = within(n, 16384, cols.curves.len() / 3, cols.curves.len() / 3);
-    let n = p.speed_count + laid;
-    let speed = within(n, 4096, cols.speeds.len() / 2, cols.speeds.len() / 2);
-    let n = p.power_count + sum.powers;
-    let drawn = within(n, 1024, cols.powers.len() / 3, cols.districts.len());
-    points & (slopes & (bends & (speed & drawn)))
+    let laid = sum_limits(list, network, train);
+    let grown = PathTpc {
+        link_count: p.link_count + list.len(),
+        grade_count: p.grade_count + sum.grades,
+        curve_count: p.curve_count + sum.curves,
+        speed_count: p.speed_count + 2 * laid,
+        power_count: p.power_count + sum.powers,
+        is_finished: p.is_finished,
+    };
+    within_bounds(grown, cols)
 }

@@ -15,25 +15,25 @@ returns-then-list-gt1025 c =
 pub sum_limits-laid-requires : goal.sum_limits-laid-requires
 sum_limits-laid-requires c = record { list_len_bound = c.if-list-gt1025.false; list_value = c.requires.list_value }
 
-pub overflow_mul-laid : goal.overflow_mul-laid
-overflow_mul-laid c = record { fits = omega (arith, c.if-list-gt1025.false, c.sum_limits-laid.ensures.upper_bound) }
+pub overflow_add-grown : goal.overflow_add-grown
+overflow_add-grown c = record { fits = omega (arith, (bounds c.args.p (lent c.args.cols.now) c.requires.within_bounds).0, c.if-list-gt1025.false) }
 
-pub overflow_add-n : goal.overflow_add-n
-overflow_add-n c = record { fits = omega (arith, (bounds c.args.p (lent c.args.cols.now) c.requires.within_bounds).0, c.if-list-gt1025.false) }
+pub overflow_add-grown-2 : goal.overflow_add-grown-2
+overflow_add-grown-2 c = record { fits = omega (arith, (bounds c.args.p (lent c.args.cols.now) c.requires.within_bounds).1, c.if-list-gt1025.false, c.sum_counts-sum.ensures.grades_bound) }
 
-pub overflow_add-n-2 : goal.overflow_add-n-2
-overflow_add-n-2 c = record { fits = omega (arith, (bounds c.args.p (lent c.args.cols.now) c.requires.within_bounds).1, c.if-list-gt1025.false, c.sum_counts-sum.ensures.grades_bound) }
+pub overflow_add-grown-3 : goal.overflow_add-grown-3
+overflow_add-grown-3 c = record { fits = omega (arith, (bounds c.args.p (lent c.args.cols.now) c.requires.within_bounds).2, c.if-list-gt1025.false, c.sum_counts-sum.ensures.curves_bound) }
 
-pub overflow_add-n-3 : goal.overflow_add-n-3
-overflow_add-n-3 c = record { fits = omega (arith, (bounds c.args.p (lent c.args.cols.now) c.requires.within_bounds).2, c.if-list-gt1025.false, c.sum_counts-sum.ensures.curves_bound) }
+pub overflow_add-grown-4 : goal.overflow_add-grown-4
+overflow_add-grown-4 c = record { fits = omega (arith, (bounds c.args.p (lent c.args.cols.now) c.requires.within_bounds).3, c.if-list-gt1025.false, c.sum_limits-laid.ensures.upper_bound) }
 
-pub overflow_add-n-4 : goal.overflow_add-n-4
-overflow_add-n-4 c = record { fits = omega (arith, (bounds c.args.p (lent c.args.cols.now) c.requires.within_bounds).3, c.if-list-gt1025.false, c.sum_limits-laid.ensures.upper_bound) }
+pub overflow_add-grown-5 : goal.overflow_add-grown-5
+overflow_add-grown-5 c = record { fits = omega (arith, (bounds c.args.p (lent c.args.cols.now) c.requires.within_bounds).4, c.if-list-gt1025.false, c.sum_counts-sum.ensures.powers_bound) }
 
-pub overflow_add-n-5 : goal.overflow_add-n-5
-overflow_add-n-5 c = record { fits = omega (arith, (bounds c.args.p (lent c.args.cols.now) c.requires.within_bounds).4, c.if-list-gt1025.false, c.sum_counts-sum.ensures.powers_bound) }
+pub overflow_mul-grown : goal.overflow_mul-grown
+overflow_mul-grown c = record { fits = omega (arith, c.if-list-gt1025.false, c.sum_limits-laid.ensures.upper_bound) }
 
 pub returns : goal.returns
 returns c =
     let a = c.args in
-    all_fit a.train (table a.network.now) a.list.now a.p (lent a.cols.now) c.sum_counts-sum.ensures.sums c.sum_limits-laid.ensures.sum c.within-points.ensures c.within-slopes.ensures c.within-bends.ensures c.within-speed.ensures c.within-drawn.ensures
+    all_fit a.train (table a.network.now) a.list.now a.p (lent a.cols.now) _ c.sum_counts-sum.ensures.sums c.sum_limits-laid.ensures.sum c.within_bounds.ensures
