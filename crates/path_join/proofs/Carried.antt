@@ -15,12 +15,12 @@ use Rattle.link.specs.Lists.{every, up_from, first_no_from}
 use Rattle.link.specs.Table.{LinkTable, sample_at, power_at, numbers_of}
 use Rattle.path_speeds.specs.Limits.{sets_of, finite_at}
 use Rattle.path_stretches.specs.declared.stretch.Stretch.{Stretch}
-use Rattle.path_stretches.specs.declared.stretch.Reached.{Reached}
-use Rattle.path_stretches.proofs.StretchSteps.{cond_none, reached-told, not-reached}
+use Rattle.path_stretches.specs.declared.stretch.StretchEnd.{StretchEnd}
+use Rattle.path_stretches.proofs.StretchSteps.{ended, cond_none, ended-told, not-ended}
 use Rattle.std.specs.Prelude.{Option, Some, None}
 use Rattle.std.proofs.lemmas.Option.{cond_some}
 use mathlib.Core.Bool.{and-false, cond}
-use Rattle.path_stretches.specs.Stretches.{stretches, is_finite, reached}
+use Rattle.path_stretches.specs.Stretches.{stretches, is_finite}
 use Rattle.path_stretches.specs.Powers.{power_finite}
 use Rattle.path_join.specs.Listed.{length_at, powers_at}
 use Rattle.path_join.specs.declared.path_end.PathEnd.{PathEnd}
@@ -48,28 +48,28 @@ module _ (train : TrainParams) (own : Float) (t : LinkTable) (at : PathEnd) wher
     curves-same = rw (e, f)
 
     -- its grades, or its curves, are not all finite
-    pub no-grades : {slopes : Option Reached} → slopes ≡ reached at.grade.0 at.grade_net.0 grades_read → slopes ≡ None → None ≡ walked train own t at n
+    pub no-grades : {slopes : Option StretchEnd} → slopes ≡ ended at.grade.0 at.grade_net.0 grades_read → slopes ≡ None → None ≡ walked train own t at n
     unfolding sums_finite
     no-grades g h =
-        let no = not-reached at.grade.0 at.grade_net.0 (grades_at train t at n) (ap (reached at.grade.0 at.grade_net.0) (sym grades-same) ∙ sym g ∙ h) in
+        let no = not-ended at.grade.0 at.grade_net.0 (grades_at train t at n) (ap (ended at.grade.0 at.grade_net.0) (sym grades-same) ∙ sym g ∙ h) in
         let sums : sums_finite train own t at n ≡ false = rw no (never _ _) in
         sym (ap (λ (x : Bool). cond x (Some (path_end_after train t at n)) None) sums)
 
-    pub no-curves : {bends : Option Reached} → bends ≡ reached at.grade.0 at.curve_net.0 curves_read → bends ≡ None → None ≡ walked train own t at n
+    pub no-curves : {bends : Option StretchEnd} → bends ≡ ended at.grade.0 at.curve_net.0 curves_read → bends ≡ None → None ≡ walked train own t at n
     unfolding sums_finite
     no-curves g h =
-        let no = not-reached at.grade.0 at.curve_net.0 (curves_at train t at n) (ap (reached at.grade.0 at.curve_net.0) (sym curves-same) ∙ sym g ∙ h) in
+        let no = not-ended at.grade.0 at.curve_net.0 (curves_at train t at n) (ap (ended at.grade.0 at.curve_net.0) (sym curves-same) ∙ sym g ∙ h) in
         let both : (every is_finite (grades_at train t at n) && (every is_finite (curves_at train t at n) && every (power_finite at.grade.0) (powers_at t.links t.powers t.districts n))) ≡ false = rw no (and-false _) in
         let sums : sums_finite train own t at n ≡ false = rw both (never _ _) in
         sym (ap (λ (x : Bool). cond x (Some (path_end_after train t at n)) None) sums)
 
     -- both are: the rest decides
     pub walked-link :
-        {laid far drawn : Bool} {slopes bends : Option Reached} {s b : Reached} (rest : Bool)
+        {laid far drawn : Bool} {slopes bends : Option StretchEnd} {s b : StretchEnd} (rest : Bool)
         → laid ≡ finite_at train own (sets_of t) at.link.0 n
-        → slopes ≡ reached at.grade.0 at.grade_net.0 grades_read
+        → slopes ≡ ended at.grade.0 at.grade_net.0 grades_read
         → slopes ≡ Some s
-        → bends ≡ reached at.grade.0 at.curve_net.0 curves_read
+        → bends ≡ ended at.grade.0 at.curve_net.0 curves_read
         → bends ≡ Some b
         → drawn ≡ every (power_finite at.grade.0) (up_from (power_at t.powers t.districts) l.powers_first l.powers_count)
         → far ≡ finite (long ⊕ at.link.0)
@@ -77,8 +77,8 @@ module _ (train : TrainParams) (own : Float) (t : LinkTable) (at : PathEnd) wher
         → cond rest (Some (path_end (long ⊕ at.link.0) s.offset.0 s.net.0 b.net.0)) None ≡ walked train own t at n
     unfolding sums_finite path_end_after
     walked-link {s = s} {b = b} rest e₃ e₄ f₄ e₅ f₅ e₆ e₇ r =
-        let g = reached-told at.grade.0 at.grade_net.0 (grades_at train t at n) (ap (reached at.grade.0 at.grade_net.0) (sym grades-same) ∙ sym e₄ ∙ f₄) in
-        let c = reached-told at.grade.0 at.curve_net.0 (curves_at train t at n) (ap (reached at.grade.0 at.curve_net.0) (sym curves-same) ∙ sym e₅ ∙ f₅) in
+        let g = ended-told at.grade.0 at.grade_net.0 (grades_at train t at n) (ap (ended at.grade.0 at.grade_net.0) (sym grades-same) ∙ sym e₄ ∙ f₄) in
+        let c = ended-told at.grade.0 at.curve_net.0 (curves_at train t at n) (ap (ended at.grade.0 at.curve_net.0) (sym curves-same) ∙ sym e₅ ∙ f₅) in
         let ends : path_end (long ⊕ at.link.0) s.offset.0 s.net.0 b.net.0 ≡ path_end_after train t at n = rw (← g.1, ← c.1, f) in
         let sums : rest ≡ sums_finite train own t at n = sym r ∙ rw (e₃, e₇, e₆, e, f, g.0, c.0) in
         ap₂ (λ (x : Bool) (y : PathEnd). cond x (Some y) None) sums ends

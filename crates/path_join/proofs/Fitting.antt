@@ -2,14 +2,14 @@
 use Prim.Native.Nat.{ℕ, ◌+◌, ◌*◌, ◌<◌}
 use native.Mathlib.Omega.{arith}
 use mathlib.Core.Path.{◌≡◌}
-use mathlib.Core.Bool.{Bool, false, ◌&&◌}
+use mathlib.Core.Bool.{Bool, false}
 use mathlib.Core.List.{List}
 use lib.ListN.{length}
 use borrow.Author.Tests.{lt-leb}
 use Rattle.link.specs.declared.train_params.TrainParams.{TrainParams}
 use Rattle.link.specs.Table.{LinkTable}
 use Rattle.path.specs.declared.path_tpc.PathTpc.{PathTpc}
-use Rattle.path.specs.Records.{Columns, fits_links, fits_grades, fits_curves, fits_speeds, fits_powers}
+use Rattle.path.specs.Records.{Columns}
 use Rattle.path.specs.Sound.{within_bounds}
 use Rattle.path_speeds.specs.Limits.{sets_of, count_at}
 use Rattle.path_join.specs.Listed.{sum_of}

@@ -49,7 +49,8 @@ fn walk_link(
         net,
         length,
         train,
-    )?;
+    );
+    let slopes = slopes.end()?;
     let first = l.headings_first as usize;
     let count = l.headings_count as usize;
     let net = at.curve_net;
@@ -62,7 +63,8 @@ fn walk_link(
         net,
         length,
         train,
-    )?;
+    );
+    let bends = bends.end()?;
     let first = l.powers_first as usize;
     let count = l.powers_count as usize;
     let drawn = powers_finite(network.powers, network.districts, first, count, at.grade);

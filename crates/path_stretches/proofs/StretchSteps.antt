@@ -2,8 +2,8 @@
 use Prim.Native.Nat.{ℕ, suc, ◌+◌, ◌-◌, ◌≤◌, ◌<◌}
 use native.Mathlib.Omega.{arith}
 use mathlib.Core.Path.{◌≡◌, refl, sym, ap, ap₂, ◌∙◌}
-use mathlib.Core.Bool.{Bool, true, false, cond, and-true}
-use Rattle.std.specs.Prelude.{Some, None}
+use mathlib.Core.Bool.{Bool, true, false, cond, ◌&&◌, and-true, and_assoc}
+use Rattle.std.specs.Prelude.{Option, Some, None}
 use Rattle.std.proofs.lemmas.Option.{none-some, cond_some}
 use mathlib.Core.List.{List, [], ◌∷◌}
 use lib.Ieee.{Float}
@@ -14,6 +14,7 @@ use Rattle.link.specs.Table.{Sample}
 use Rattle.link.proofs.Loops.{length-range, range-more, range_none}
 use Rattle.path_stretches.specs.declared.stretch.Stretch.{Stretch}
 use Rattle.path_stretches.specs.declared.stretch.Reached.{Reached}
+use Rattle.path_stretches.specs.declared.stretch.StretchEnd.{StretchEnd}
 use Rattle.path_stretches.specs.Stretches.{stretch_step, stretches_from, flat_stretch, stretches, record_count, stretch_count, is_finite, end_of, offset_after, net_after, reached}
 
 -- the stretches that end at sample i and after it, below `end`
@@ -65,19 +66,44 @@ count-range at first count = ap record_count (length-range at first count)
 
 -- ---- what they come to
 
-module _ (offset net : Float) where
-  -- one stretch, and more after it
-  reached-more : (s : Stretch) (ss : List Stretch) → s.finite ≡ true → reached offset net (s ∷ ss) ≡ reached s.offset.0 s.net.0 ss
-  unfolding reached every offset_after net_after
-  reached-more s ss h = rw h
+-- an answer so far, and where the rest ends
+abbrev pub after : Bool → Reached → Reached
+after finite r = record { finite = finite && r.finite; offset = r.offset; net = r.net }
 
-  reached-not : (s : Stretch) (ss : List Stretch) → s.finite ≡ false → reached offset net (s ∷ ss) ≡ None
+module _ (finite : Bool) (offset net : Float) where
+  reached-more : (s : Stretch) (ss : List Stretch) → after finite (reached offset net (s ∷ ss)) ≡ after (finite && s.finite) (reached s.offset.0 s.net.0 ss)
   unfolding reached every offset_after net_after
-  reached-not s ss h = rw h
+  reached-more s ss = rw (and_assoc finite s.finite (every is_finite ss))
 
-  reached-none : reached offset net [] ≡ Some (record { offset = record { 0 = offset }; net = record { 0 = net } })
+  reached-none : after finite (reached offset net []) ≡ record { finite = finite; offset = record { 0 = offset }; net = record { 0 = net } }
   unfolding reached every offset_after net_after
-  reached-none = refl
+  reached-none = rw (and-true finite)
+
+module _ (step : Float → Sample → Sample → Stretch) (at : ℕ → Sample) (end : ℕ) (finite : Bool) (offset net : Float) (i : ℕ) where
+  -- one stretch more
+  pub walk_more :
+      {s : Stretch}
+      → i < end
+      → s ≡ step net (at (i - 1)) (at i)
+      → after finite (reached offset net (stretches_at step at end net i)) ≡ after (finite && s.finite) (reached s.offset.0 s.net.0 (stretches_at step at end s.net.0 (i + 1)))
+  walk_more h e =
+      ap (λ (ss : List Stretch). after finite (reached offset net ss)) (stretches-more step at end net i h)
+      ∙ reached-more finite offset net _ _
+      ∙ ap (λ (s : Stretch). after (finite && s.finite) (reached s.offset.0 s.net.0 (stretches_at step at end s.net.0 (i + 1)))) (sym e)
+
+  -- none left
+  pub walk_none : end ≤ i → after finite (reached offset net (stretches_at step at end net i)) ≡ record { finite = finite; offset = record { 0 = offset }; net = record { 0 = net } }
+  walk_none h = ap (λ (ss : List Stretch). after finite (reached offset net ss)) (stretches-none step at end net i h) ∙ reached-none finite offset net
+
+-- without samples
+pub walk-flat : (offset net : Float) (s : Stretch) → reached offset net (s ∷ []) ≡ record { finite = s.finite; offset = s.offset; net = s.net }
+unfolding reached every offset_after net_after
+walk-flat offset net s = rw (and-true s.finite)
+
+-- ---- the end alone
+
+abbrev pub ended : Float → Float → List Stretch → Option StretchEnd
+ended offset net ss = end_of (reached offset net ss)
 
 -- none, unless it is so
 pub cond_none : {A : Type 0} (b : Bool) (x : A) → cond b (Some x) None ≡ None → b ≡ false
@@ -86,33 +112,10 @@ cond_none false x e = refl
 
 -- what the answer tells
 module _ (offset net : Float) (ss : List Stretch) where
-  pub reached-told : {r : Reached} → reached offset net ss ≡ Some r → (every is_finite ss ≡ true) × (record { offset = record { 0 = offset_after offset ss }; net = record { 0 = net_after net ss } } ≡ r)
+  pub ended-told : {r : StretchEnd} → ended offset net ss ≡ Some r → (every is_finite ss ≡ true) × (record { offset = record { 0 = offset_after offset ss }; net = record { 0 = net_after net ss } } ≡ r)
   unfolding reached
-  reached-told {r} e = cond_some (every is_finite ss) _ r e
+  ended-told {r} e = cond_some (every is_finite ss) _ r e
 
-  pub not-reached : reached offset net ss ≡ None → every is_finite ss ≡ false
+  pub not-ended : ended offset net ss ≡ None → every is_finite ss ≡ false
   unfolding reached
-  not-reached e = cond_none (every is_finite ss) _ e
-
-module _ (step : Float → Sample → Sample → Stretch) (at : ℕ → Sample) (end : ℕ) (offset net : Float) (i : ℕ) {s : Stretch} (h : i < end) (e : s ≡ step net (at (i - 1)) (at i)) where
-  reached-next : reached offset net (stretches_at step at end net i) ≡ reached offset net (s ∷ stretches_at step at end s.net.0 (i + 1))
-  reached-next = rw e (ap (reached offset net) (stretches-more step at end net i h))
-
-  -- one stretch more
-  pub walk_more : {r : Reached} → end_of s ≡ Some r → reached offset net (stretches_at step at end net i) ≡ reached r.offset.0 r.net.0 (stretches_at step at end r.net.0 (i + 1))
-  walk_more f =
-      let t = cond_some s.finite _ _ f in
-      rw (← t.1) (reached-next ∙ reached-more offset net s _ t.0)
-
-  -- one that is not finite
-  pub walk_not : end_of s ≡ None → reached offset net (stretches_at step at end net i) ≡ None
-  walk_not f = reached-next ∙ reached-not offset net s _ (cond_none s.finite _ f)
-
--- none left
-pub walk_none : (step : Float → Sample → Sample → Stretch) (at : ℕ → Sample) (end : ℕ) (offset net : Float) (i : ℕ) → end ≤ i → reached offset net (stretches_at step at end net i) ≡ Some (record { offset = record { 0 = offset }; net = record { 0 = net } })
-walk_none step at end offset net i h = ap (reached offset net) (stretches-none step at end net i h) ∙ reached-none offset net
-
--- without samples
-pub walk-flat : (offset net : Float) (s : Stretch) → reached offset net (s ∷ []) ≡ end_of s
-unfolding reached every offset_after net_after
-walk-flat offset net s = rw (and-true s.finite)
+  not-ended e = cond_none (every is_finite ss) _ e

@@ -19,6 +19,7 @@ use Rattle.link.specs.Table.{Sample}
 use Rattle.path.specs.Records.{last_coeff}
 use Rattle.path_stretches.specs.declared.stretch.Stretch.{Stretch}
 use Rattle.path_stretches.specs.declared.stretch.Reached.{Reached}
+use Rattle.path_stretches.specs.declared.stretch.StretchEnd.{StretchEnd}
 
 -- A stretch gives the record before it a coefficient, or leaves it its own, and adds a record with the coefficient 0 at the stretch's end.
 -- `finite` says that every result on the way is, as question 8 asks.
@@ -137,14 +138,13 @@ net_after net (s ∷ ss) = net_after s.net.0 ss
 abbrev pub is_finite : Stretch → Bool
 is_finite s = s.finite
 
--- where one ends, if it is finite
-abbrev pub end_of : Stretch → Option Reached
-end_of s = cond s.finite (Some (record { offset = s.offset; net = s.net })) None
-
--- where all of them end, if each is finite
-unfoldable pub reached : Float → Float → List Stretch → Option Reached
+unfoldable pub reached : Float → Float → List Stretch → Reached
 unfolding offset_after net_after
-reached offset net ss = cond (every is_finite ss) (Some (record { offset = record { 0 = offset_after offset ss }; net = record { 0 = net_after net ss } })) None
+reached offset net ss = record { finite = every is_finite ss; offset = record { 0 = offset_after offset ss }; net = record { 0 = net_after net ss } }
+
+-- where they end, if every result on the way is finite
+abbrev pub end_of : Reached → Option StretchEnd
+end_of r = cond r.finite (Some (record { offset = r.offset; net = r.net })) None
 
 -- ---- laid on records
 

@@ -18,20 +18,28 @@ pub struct Stretch {
     pub finite: bool,
 }
 
-// Where stretches end.
+// Where stretches end; `finite` says whether every result on the way is, and the end is told either way.
 #[derive(Clone, Copy)]
 pub struct Reached {
+    pub finite: bool,
     pub offset: Length,
     pub net: Length,
 }
 
-impl Stretch {
-    // Where it ends, if every result on the way is finite.
-    pub fn end(self) -> Option<Reached>
+// The end alone.
+#[derive(Clone, Copy)]
+pub struct StretchEnd {
+    pub offset: Length,
+    pub net: Length,
+}
+
+impl Reached {
+    // Where they end, if every result on the way is finite.
+    pub fn end(self) -> Option<StretchEnd>
         ensures { result ≡ spec.end_of self }
     {
         if self.finite {
-            return Some(Reached {
+            return Some(StretchEnd {
                 offset: self.offset,
                 net: self.net,
             });

@@ -49,7 +49,7 @@ fn stretch_at(
     grade_stretch(base, net, elev_at(pool, i - 1), elev_at(pool, i))
 }
 
-// Where the stretches of `count` samples from `first` on end; None: some result on the way is not finite.
+// Where the stretches of `count` samples from `first` on end.
 pub fn walk_stretches(
     lines: Lines,
     pool: &[f64],
@@ -59,19 +59,33 @@ pub fn walk_stretches(
     net: Length,
     length: Length,
     train: TrainParams,
-) -> Option<Reached>
+) -> Reached
     requires { first + count < 2 ^ 40 }
     ensures { result ≡ spec.reached base.0 net.0
         (spec.stretches (is_curves lines) train base.0 net.0 length.0 (up_from (sample_at pool.now) first count)) }
 {
     if count == 0 {
-        return flat_stretch(base, net, length).end();
+        let s = flat_stretch(base, net, length);
+        return Reached {
+            finite: s.finite,
+            offset: s.offset,
+            net: s.net,
+        };
     }
-    let mut at = Reached { offset: base, net };
+    let mut at = Reached {
+        finite: true,
+        offset: base,
+        net,
+    };
     for i in first + 1..first + count {
-        at = stretch_at(lines, pool, i, base, at.net, train).end()?;
+        let s = stretch_at(lines, pool, i, base, at.net, train);
+        at = Reached {
+            finite: at.finite & s.finite,
+            offset: s.offset,
+            net: s.net,
+        };
     }
-    Some(at)
+    at
 }
 
 impl CoeffColumn<'_> {
