@@ -1,10 +1,12 @@
-// The path: its record and its columns, with room for 48 link points, 160 grades, curves and speed points, and 64 power limits.
-use crate::print::{Reals, Reply, bits};
-use answer::Answer;
+// The path: its record and its columns.
+use crate::print::{Reals, Values, bits};
+use answer::Refusal;
 use link::network::Network;
 use link::train_params::TrainParams;
+use path::columns::{PathColumns, PathColumnsMut};
+use path::lines::Lines;
 use path::link_point::{LinkPoint, link_point_at};
-use path::path_tpc::{PathAnswer, PathTpc};
+use path::path_tpc::PathTpc;
 use path_link_records::link_records::link_range;
 use si::Length;
 use std::fmt;
@@ -12,223 +14,98 @@ use train::set_link_and_offset::with_link_and_offset;
 use train::train_state::TrainState;
 
 #[derive(Drop)]
-pub struct Path {
-    record: PathTpc,
-    offsets: [f64; 48],
-    numbers: [u32; 192],
-    grades: [f64; 480],
-    curves: [f64; 480],
-    speeds: [f64; 320],
-    powers: [f64; 192],
-    districts: [u32; 64],
+pub struct Path<'a> {
+    pub record: PathTpc,
+    pub columns: PathColumnsMut<'a>,
 }
 
-impl Path {
-    // A path without records.
-    pub fn empty() -> Path {
-        Path {
-            record: PathTpc {
-                link_count: 0,
-                grade_count: 0,
-                curve_count: 0,
-                speed_count: 0,
-                power_count: 0,
-                is_finished: false,
-            },
-            offsets: [0.0; 48],
-            numbers: [0; 192],
-            grades: [0.0; 480],
-            curves: [0.0; 480],
-            speeds: [0.0; 320],
-            powers: [0.0; 192],
-            districts: [0; 64],
-        }
+impl Path<'_> {
+    // What a call that may change the path answers, with the record that it leaves; a refused one leaves the record.
+    fn settled(&mut self, r: Result<PathTpc, Refusal>) -> Result<Values, Refusal> {
+        self.record = r?;
+        Ok(Values::index(self.record.is_finished as usize))
     }
 
-    // The answer of a call that may change the path; a refused one leaves its record.
-    fn settled(&mut self, r: PathAnswer) -> Reply {
-        if r.answer.number == 0 {
-            self.record = r.path;
-        }
-        Reply::new(r.answer).with_index(r.path.is_finished as usize)
-    }
-
-    pub fn start(&mut self, train: TrainParams) -> Reply {
-        let r = path_ends::new::new(
-            train,
-            &mut self.offsets,
-            &mut self.numbers,
-            &mut self.grades,
-            &mut self.curves,
-            &mut self.speeds,
-            &mut self.powers,
-            &mut self.districts,
-        );
+    pub fn start(&mut self, train: TrainParams) -> Result<Values, Refusal> {
+        let r = path_ends::new::new(train, &mut self.columns);
         self.settled(r)
     }
 
-    pub fn extend(&mut self, train: TrainParams, list: &[u32], t: Network) -> Reply {
-        let r = path_extend::extend::extend(
-            self.record,
-            train,
-            list,
-            &mut self.offsets,
-            &mut self.numbers,
-            &mut self.grades,
-            &mut self.curves,
-            &mut self.speeds,
-            &mut self.powers,
-            &mut self.districts,
-            t.links,
-            t.lengths,
-            t.sets,
-            t.elevs,
-            t.headings,
-            t.limits,
-            t.codes,
-            t.values,
-            t.powers,
-            t.districts,
-        );
+    pub fn extend(
+        &mut self,
+        train: TrainParams,
+        list: &[u32],
+        t: Network,
+    ) -> Result<Values, Refusal> {
+        let p = self.record;
+        let r = path_extend::extend::extend(p, train, list, &mut self.columns, &t);
         self.settled(r)
     }
 
-    pub fn recalc_speeds(&mut self, train: TrainParams, t: Network) -> Reply {
-        let r = path_speeds::recalc_speeds::recalc_speeds(
-            self.record,
-            train,
-            &mut self.offsets,
-            &mut self.numbers,
-            &mut self.grades,
-            &mut self.curves,
-            &mut self.speeds,
-            &mut self.powers,
-            &mut self.districts,
-            t.links,
-            t.lengths,
-            t.sets,
-            t.elevs,
-            t.headings,
-            t.limits,
-            t.codes,
-            t.values,
-            t.powers,
-            t.districts,
-        );
+    pub fn recalc_speeds(&mut self, train: TrainParams, t: Network) -> Result<Values, Refusal> {
+        let p = self.record;
+        let r = path_speeds::recalc_speeds::recalc_speeds(p, train, &mut self.columns, &t);
         self.settled(r)
     }
 
-    pub fn finish(&mut self) -> Reply {
-        let r = path_ends::finish::finish(
-            self.record,
-            &mut self.offsets,
-            &mut self.numbers,
-            &mut self.grades,
-            &mut self.curves,
-            &mut self.speeds,
-            &mut self.powers,
-            &mut self.districts,
-        );
+    pub fn finish(&mut self) -> Result<Values, Refusal> {
+        let p = self.record;
+        let r = path_ends::finish::finish(p, &mut self.columns);
         self.settled(r)
     }
 
-    pub fn reindex(&mut self, list: &[u32]) -> Reply {
-        let r = path_reindex::reindex::reindex(
-            self.record,
-            list,
-            &mut self.offsets,
-            &mut self.numbers,
-            &mut self.grades,
-            &mut self.curves,
-            &mut self.speeds,
-            &mut self.powers,
-            &mut self.districts,
-        );
+    pub fn reindex(&mut self, list: &[u32]) -> Result<Values, Refusal> {
+        let p = self.record;
+        let r = path_reindex::reindex::reindex(p, list, &mut self.columns);
         self.settled(r)
     }
 
-    pub fn clear(&mut self, x: f64) -> Cleared {
-        let r = path_clear::clear::clear(
-            self.record,
-            Length(x),
-            &mut self.offsets,
-            &mut self.numbers,
-            &mut self.grades,
-            &mut self.curves,
-            &mut self.speeds,
-            &mut self.powers,
-            &mut self.districts,
-        );
-        Cleared {
-            answer: r.outcome.answer,
-            reply: self.settled(r.outcome),
-            dropped: r.dropped,
-        }
+    pub fn clear(&mut self, x: f64) -> Result<Cleared, Refusal> {
+        let p = self.record;
+        let trimmed = path_clear::clear::clear(p, Length(x), &mut self.columns)?;
+        let values = self.settled(Ok(trimmed.path))?;
+        Ok(Cleared {
+            values,
+            dropped: Point(trimmed.dropped),
+        })
     }
 
-    pub fn position(&self, state: TrainState) -> Reply {
-        let r = with_link_and_offset(
-            state,
-            self.record,
-            &self.offsets,
-            &self.numbers,
-            &self.grades,
-            &self.curves,
-            &self.speeds,
-            &self.powers,
-            &self.districts,
-        );
-        let s = r.state;
-        Reply::new(r.answer)
-            .with_indices(s.link_idx_front as usize, s.link_idx_back as usize)
-            .with_value(s.offset_in_link.0)
+    pub fn position(&self, state: TrainState) -> Result<Values, Refusal> {
+        let s = with_link_and_offset(state, self.record, &self.columns.reading())?;
+        let links = Values::indices(s.link_idx_front as usize, s.link_idx_back as usize);
+        Ok(links.with_value(s.offset_in_link.0))
     }
 
     // Where a link's grades or curves lie.
-    pub fn link_range(&self, k: usize, wants_curves: bool) -> Reply {
-        let r = link_range(
-            self.record,
-            k,
-            wants_curves,
-            &self.offsets,
-            &self.numbers,
-            &self.grades,
-            &self.curves,
-            &self.speeds,
-            &self.powers,
-            &self.districts,
-        );
-        Reply::new(r.answer).with_indices(r.range.from, r.range.len)
+    pub fn link_range(&self, k: usize, lines: Lines) -> Result<Values, Refusal> {
+        let range = link_range(lines, self.record, k, &self.columns.reading())?;
+        Ok(Values::indices(range.from, range.len))
     }
 
     // Whether every entry past the records is zero.
     fn is_clean(&self) -> bool {
         let p = self.record;
-        zero_reals(rest(&self.offsets, p.link_count, 1))
-            & zero_numbers(rest(&self.numbers, p.link_count, 4))
-            & zero_reals(rest(&self.grades, p.grade_count, 3))
-            & zero_reals(rest(&self.curves, p.curve_count, 3))
-            & zero_reals(rest(&self.speeds, p.speed_count, 2))
-            & zero_reals(rest(&self.powers, p.power_count, 3))
-            & zero_numbers(rest(&self.districts, p.power_count, 1))
+        let c = self.columns.reading();
+        zero_reals(rest(c.offsets, p.link_count, 1))
+            & zero_numbers(rest(c.numbers, p.link_count, 4))
+            & zero_reals(rest(c.grades, p.grade_count, 3))
+            & zero_reals(rest(c.curves, p.curve_count, 3))
+            & zero_reals(rest(c.speeds, p.speed_count, 2))
+            & zero_reals(rest(c.powers, p.power_count, 3))
+            & zero_numbers(rest(c.districts, p.power_count, 1))
     }
 }
 
 // What `clear` answers, with the dropped link point.
 #[derive(Clone, Copy)]
 pub struct Cleared {
-    answer: Answer,
-    reply: Reply,
-    dropped: LinkPoint,
+    values: Values,
+    dropped: Point,
 }
 
 impl fmt::Display for Cleared {
     fn fmt<W: fmt::Write>(&self, f: &mut fmt::Formatter<W>) -> fmt::Result {
-        write!(f, "{}", self.reply)?;
-        if self.answer.number == 0 {
-            write!(f, "{}", Point(self.dropped))?;
-        }
-        Ok(())
+        write!(f, "{}{}", self.values, self.dropped)
     }
 }
 
@@ -253,12 +130,12 @@ impl fmt::Display for Point {
 
 // The link points of a path, and its power limits.
 #[derive(Clone, Copy)]
-struct Points<'a>(&'a Path);
+struct Points<'a>(PathTpc, PathColumns<'a>);
 
 impl fmt::Display for Points<'_> {
     fn fmt<W: fmt::Write>(&self, f: &mut fmt::Formatter<W>) -> fmt::Result {
-        for i in 0..self.0.record.link_count {
-            let l = link_point_at(&self.0.offsets, &self.0.numbers, i);
+        for i in 0..self.0.link_count {
+            let l = link_point_at(self.1.offsets, self.1.numbers, i);
             write!(f, "{}", Point(l))?;
         }
         Ok(())
@@ -266,13 +143,13 @@ impl fmt::Display for Points<'_> {
 }
 
 #[derive(Clone, Copy)]
-struct Limits<'a>(&'a Path);
+struct Limits<'a>(PathTpc, PathColumns<'a>);
 
 impl fmt::Display for Limits<'_> {
     fn fmt<W: fmt::Write>(&self, f: &mut fmt::Formatter<W>) -> fmt::Result {
-        for i in 0..self.0.record.power_count {
-            let t = column::record_at::<column::Three>(&self.0.powers, i);
-            let district = column::get(&self.0.districts, i);
+        for i in 0..self.0.power_count {
+            let t = column::record_at::<column::Three>(self.1.powers, i);
+            let district = column::get(self.1.districts, i);
             write!(f, "{} {district:x}", Reals(&[t.0, t.1, t.2]))?;
         }
         Ok(())
@@ -298,14 +175,15 @@ fn zero_numbers(col: &[u32]) -> bool {
 }
 
 // The five lists of a path, and 0 where every entry past them is zero, else 1.
-impl fmt::Display for Path {
+impl fmt::Display for Path<'_> {
     fn fmt<W: fmt::Write>(&self, f: &mut fmt::Formatter<W>) -> fmt::Result {
         let p = self.record;
-        writeln!(f, "links{}", Points(self))?;
-        writeln!(f, "grades{}", Reals(first(&self.grades, p.grade_count, 3)))?;
-        writeln!(f, "curves{}", Reals(first(&self.curves, p.curve_count, 3)))?;
-        writeln!(f, "speeds{}", Reals(first(&self.speeds, p.speed_count, 2)))?;
-        writeln!(f, "powers{}", Limits(self))?;
+        let c = self.columns.reading();
+        writeln!(f, "links{}", Points(p, c))?;
+        writeln!(f, "grades{}", Reals(first(c.grades, p.grade_count, 3)))?;
+        writeln!(f, "curves{}", Reals(first(c.curves, p.curve_count, 3)))?;
+        writeln!(f, "speeds{}", Reals(first(c.speeds, p.speed_count, 2)))?;
+        writeln!(f, "powers{}", Limits(p, c))?;
         write!(f, "rest {}", u8::from(!self.is_clean()))
     }
 }

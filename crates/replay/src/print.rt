@@ -1,5 +1,5 @@
 // Numbers and answers as they are printed.
-use answer::Answer;
+use answer::Refusal;
 use std::fmt;
 
 // The bits of an f64; all of them set for a NaN.
@@ -23,48 +23,47 @@ impl fmt::Display for Reals<'_> {
     }
 }
 
-// A call's answer with the numbers that go with it.
+// The numbers that a call answers.
 #[derive(Clone, Copy)]
-pub struct Reply {
-    answer: Answer,
+pub struct Values {
     front: Option<usize>,
     back: Option<usize>,
     value: Option<f64>,
 }
 
-impl Reply {
-    pub fn new(answer: Answer) -> Reply {
-        Reply {
-            answer,
-            front: None,
+impl Values {
+    pub fn index(i: usize) -> Values {
+        Values {
+            front: Some(i),
             back: None,
             value: None,
         }
     }
 
-    pub fn with_index(mut self, i: usize) -> Reply {
-        self.front = Some(i);
-        self
+    pub fn indices(front: usize, back: usize) -> Values {
+        Values {
+            front: Some(front),
+            back: Some(back),
+            value: None,
+        }
     }
 
-    pub fn with_indices(mut self, front: usize, back: usize) -> Reply {
-        self.front = Some(front);
-        self.back = Some(back);
-        self
+    pub fn value(x: f64) -> Values {
+        Values {
+            front: None,
+            back: None,
+            value: Some(x),
+        }
     }
 
-    pub fn with_value(mut self, x: f64) -> Reply {
+    pub fn with_value(mut self, x: f64) -> Values {
         self.value = Some(x);
         self
     }
 }
 
-impl fmt::Display for Reply {
+impl fmt::Display for Values {
     fn fmt<W: fmt::Write>(&self, f: &mut fmt::Formatter<W>) -> fmt::Result {
-        if self.answer.number != 0 {
-            return write!(f, " refused");
-        }
-        write!(f, " done")?;
         if let Some(i) = self.front {
             write!(f, " {i:x}")?;
         }
@@ -74,6 +73,19 @@ impl fmt::Display for Reply {
         match self.value {
             Some(x) => write!(f, " {:016x}", bits(x)),
             None => Ok(()),
+        }
+    }
+}
+
+// A call's answer.
+#[derive(Clone, Copy)]
+pub struct Reply<T>(pub Result<T, Refusal>);
+
+impl<T: fmt::Display> fmt::Display for Reply<T> {
+    fn fmt<W: fmt::Write>(&self, f: &mut fmt::Formatter<W>) -> fmt::Result {
+        match &self.0 {
+            Ok(values) => write!(f, " done{values}"),
+            Err(_) => write!(f, " refused"),
         }
     }
 }

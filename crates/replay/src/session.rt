@@ -1,15 +1,15 @@
-// What later calls are made on: the train, the table, the list, the position, a point, a strap and the path; and the calls on the list.
+// What later calls are made on: the train, the table, the list, the position, a point and a strap; and the calls on the list.
 use crate::call::{Change, Search, Set};
 use crate::paths::Path;
-use crate::print::Reply;
+use crate::print::Values;
 use crate::table::Table;
 use crate::words;
-use crate::words::entry;
+use crate::words::Column;
+use answer::Refusal;
 use link::train_params::TrainParams;
 use lookup::calc_idx::calc_idx;
-use resistance::listed::{CoeffAnswer, NetAnswer, Searched};
-use resistance::point::{Point, PointAnswer, PointRes};
-use resistance::strap::{Strap, StrapAnswer, StrapRes};
+use resistance::point::Point;
+use resistance::strap::Strap;
 use si::Length;
 use std::alloc::{AllocError, Global};
 use train::train_state::TrainState;
@@ -22,67 +22,57 @@ pub struct Session {
     pub state: TrainState,
     point: Point,
     strap: Strap,
-    pub path: Path,
-}
-
-fn coeff(r: CoeffAnswer) -> Reply {
-    Reply::new(r.answer).with_value(r.res_coeff.0)
-}
-
-fn net(r: NetAnswer) -> Reply {
-    Reply::new(r.answer).with_value(r.res_net.0)
-}
-
-fn point_told(r: PointAnswer) -> Reply {
-    Reply::new(r.answer).with_index(r.point.path_tpc_idx_front())
-}
-
-fn strap_told(r: StrapAnswer) -> Reply {
-    Reply::new(r.answer).with_indices(r.strap.path_tpc_idx_front(), r.strap.idx_back)
 }
 
 impl Session {
-    pub fn new(alloc: Global) -> Session {
-        Session {
-            train: words::train(&[]),
-            table: Table::new(alloc),
-            list: Vec::new(alloc),
-            state: words::state(&[]),
+    // What is made before anything is set reads the text's first words.
+    pub fn new(alloc: Global, first: Column) -> Result<Session, AllocError> {
+        Ok(Session {
+            train: words::train(first),
+            table: Table::read(alloc, first)?,
+            list: first.floats(alloc, 0..first.held())?,
+            state: words::state(first),
             point: Point { idx: 0 },
             strap: Strap {
                 idx_front: 0,
                 idx_back: 0,
             },
-            path: Path::empty(),
-        }
+        })
     }
 
-    pub fn set(&mut self, alloc: Global, what: Set, args: &[u64]) -> Result<(), AllocError> {
+    pub fn set(&mut self, alloc: Global, what: Set, args: Column) -> Result<(), AllocError> {
         match what {
             Set::Train => self.train = words::train(args),
             Set::Table => self.table = Table::read(alloc, args)?,
-            Set::List => self.list = words::floats(alloc, args)?,
+            Set::List => self.list = args.floats(alloc, 0..args.held())?,
             Set::State => self.state = words::state(args),
-            Set::Point => self.point.idx = entry(args, 0) as usize,
+            Set::Point => self.point.idx = args.entry(0) as usize,
             Set::Strap => {
                 self.strap = Strap {
-                    idx_front: entry(args, 0) as usize,
-                    idx_back: entry(args, 1) as usize,
+                    idx_front: args.entry(0) as usize,
+                    idx_back: args.entry(1) as usize,
                 }
             }
         }
         Ok(())
     }
 
-    pub fn change(&mut self, alloc: Global, c: Change, args: &[u64]) -> Result<Reply, AllocError> {
-        let list = words::numbers(alloc, args)?;
+    // A call that may change the path.
+    pub fn change(
+        &self,
+        alloc: Global,
+        path: &mut Path,
+        c: Change,
+        args: Column,
+    ) -> Result<Result<Values, Refusal>, AllocError> {
+        let list = args.numbers(alloc, 0..args.held())?;
         let t = self.table.network();
         Ok(match c {
-            Change::New => self.path.start(self.train),
-            Change::Extend => self.path.extend(self.train, &list, t),
-            Change::Finish => self.path.finish(),
-            Change::RecalcSpeeds => self.path.recalc_speeds(self.train, t),
-            Change::Reindex => self.path.reindex(&list),
+            Change::New => path.start(self.train),
+            Change::Extend => path.extend(self.train, &list, t),
+            Change::Finish => path.finish(),
+            Change::RecalcSpeeds => path.recalc_speeds(self.train, t),
+            Change::Reindex => path.reindex(&list),
         })
     }
 
@@ -91,115 +81,88 @@ impl Session {
         self.list.len() / 3
     }
 
-    pub fn search(&mut self, c: Search, args: &[u64]) -> Reply {
+    pub fn search(&mut self, c: Search, args: Column) -> Result<Values, Refusal> {
+        let list = &self.list;
+        let n = self.records();
+        let state = self.state;
         match c {
-            Search::CalcIdx => self.calc_idx(args),
-            Search::PointNew => self.point_new(),
-            Search::PointRes => self.point_res(args),
-            Search::PointFix => self.point_fix(args),
-            Search::StrapNew => self.strap_new(),
-            Search::StrapRes => self.strap_res(args),
-            Search::StrapFix => self.strap_fix(args),
+            Search::CalcIdx => {
+                let x = Length(args.float_at(0));
+                let dir = words::dir(args.entry(2));
+                let found = calc_idx(list, n, x, args.entry(1) as usize, dir)?;
+                Ok(Values::index(found))
+            }
+            Search::PointNew => {
+                let made = Point::new(list, n, state);
+                self.at_point(made)
+            }
+            Search::PointRes => {
+                let dir = words::dir(args.entry(0));
+                let there = self.point.calc_res(list, n, state, dir)?;
+                Ok(self.at_point(Ok(there.point))?.with_value(there.res.0))
+            }
+            Search::PointFix => {
+                let fixed = self.point.fix_cache(args.entry(0) as usize);
+                self.at_point(fixed)
+            }
+            Search::StrapNew => {
+                let made = Strap::new(list, n, state);
+                self.at_strap(made)
+            }
+            Search::StrapRes => {
+                let dir = words::dir(args.entry(0));
+                let there = self.strap.calc_res(list, n, state, dir)?;
+                Ok(self.at_strap(Ok(there.strap))?.with_value(there.res.0))
+            }
+            Search::StrapFix => {
+                let fixed = self.strap.fix_cache(args.entry(0) as usize);
+                self.at_strap(fixed)
+            }
         }
     }
 
-    fn calc_idx(&self, args: &[u64]) -> Reply {
-        let x = Length(words::float_at(args, 0));
-        let dir = words::dir(entry(args, 2));
-        let found = calc_idx(&self.list, self.records(), x, entry(args, 1) as usize, dir);
-        let r = Searched::from(found);
-        Reply::new(r.answer).with_index(r.idx)
+    // Where a point or a strap is; a refused call leaves it.
+    fn at_point(&mut self, r: Result<Point, Refusal>) -> Result<Values, Refusal> {
+        self.point = r?;
+        Ok(Values::index(self.point.path_tpc_idx_front()))
     }
 
-    fn point_new(&mut self) -> Reply {
-        let made = Point::new(&self.list, self.records(), self.state);
-        let r = PointAnswer::told(self.point, made);
-        if r.answer.number == 0 {
-            self.point = r.point;
-        }
-        point_told(r)
+    fn at_strap(&mut self, r: Result<Strap, Refusal>) -> Result<Values, Refusal> {
+        self.strap = r?;
+        let s = self.strap;
+        Ok(Values::indices(s.path_tpc_idx_front(), s.idx_back))
     }
 
-    fn point_res(&mut self, args: &[u64]) -> Reply {
-        let dir = words::dir(entry(args, 0));
-        let force = self
-            .point
-            .calc_res(&self.list, self.records(), self.state, dir);
-        let r = PointRes::told(self.point, force);
-        self.point = r.point;
-        Reply::new(r.answer)
-            .with_index(r.point.path_tpc_idx_front())
-            .with_value(r.res.0)
+    pub fn point_coeff(&self) -> Result<Values, Refusal> {
+        let r = self.point.res_coeff_front(&self.list, self.records())?;
+        Ok(Values::value(r.0))
     }
 
-    fn point_fix(&mut self, args: &[u64]) -> Reply {
-        let fixed = self.point.fix_cache(entry(args, 0) as usize);
-        let r = PointAnswer::told(self.point, fixed);
-        self.point = r.point;
-        point_told(r)
+    pub fn point_net(&self) -> Result<Values, Refusal> {
+        let n = self.records();
+        let r = self.point.res_net_front(&self.list, n, self.state)?;
+        Ok(Values::value(r.0))
     }
 
-    fn strap_new(&mut self) -> Reply {
-        let made = Strap::new(&self.list, self.records(), self.state);
-        let r = StrapAnswer::told(self.strap, made);
-        if r.answer.number == 0 {
-            self.strap = r.strap;
-        }
-        strap_told(r)
+    pub fn strap_coeff_front(&self) -> Result<Values, Refusal> {
+        let r = self.strap.res_coeff_front(&self.list, self.records())?;
+        Ok(Values::value(r.0))
     }
 
-    fn strap_res(&mut self, args: &[u64]) -> Reply {
-        let dir = words::dir(entry(args, 0));
-        let force = self
-            .strap
-            .calc_res(&self.list, self.records(), self.state, dir);
-        let r = StrapRes::told(self.strap, force);
-        self.strap = r.strap;
-        Reply::new(r.answer)
-            .with_indices(r.strap.path_tpc_idx_front(), r.strap.idx_back)
-            .with_value(r.res.0)
+    pub fn strap_coeff_back(&self) -> Result<Values, Refusal> {
+        let r = self.strap.res_coeff_back(&self.list, self.records())?;
+        Ok(Values::value(r.0))
     }
 
-    fn strap_fix(&mut self, args: &[u64]) -> Reply {
-        let fixed = self.strap.fix_cache(entry(args, 0) as usize);
-        let r = StrapAnswer::told(self.strap, fixed);
-        self.strap = r.strap;
-        strap_told(r)
+    pub fn strap_net_front(&self) -> Result<Values, Refusal> {
+        let n = self.records();
+        let r = self.strap.res_net_front(&self.list, n, self.state)?;
+        Ok(Values::value(r.0))
     }
 
-    pub fn point_coeff(&self) -> Reply {
-        let r = self.point.res_coeff_front(&self.list, self.records());
-        coeff(CoeffAnswer::from(r))
-    }
-
-    pub fn point_net(&self) -> Reply {
-        let r = self
-            .point
-            .res_net_front(&self.list, self.records(), self.state);
-        net(NetAnswer::from(r))
-    }
-
-    pub fn strap_coeff_front(&self) -> Reply {
-        let r = self.strap.res_coeff_front(&self.list, self.records());
-        coeff(CoeffAnswer::from(r))
-    }
-
-    pub fn strap_coeff_back(&self) -> Reply {
-        let r = self.strap.res_coeff_back(&self.list, self.records());
-        coeff(CoeffAnswer::from(r))
-    }
-
-    pub fn strap_net_front(&self) -> Reply {
-        let r = self
-            .strap
-            .res_net_front(&self.list, self.records(), self.state);
-        net(NetAnswer::from(r))
-    }
-
-    pub fn strap_net_back(&self) -> Reply {
-        let r = self
-            .strap
-            .res_net_back(&self.list, self.records(), self.state);
-        net(NetAnswer::from(r))
+    pub fn strap_net_back(&self) -> Result<Values, Refusal> {
+        let n = self.records();
+        let r = self.strap.res_net_back(&self.list, n, self.state)?;
+        Ok(Values::value(r.0))
     }
 }

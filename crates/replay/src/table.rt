@@ -1,7 +1,8 @@
-// The link table: its columns, each of which is stored behind its length.
-use crate::words::{floats, numbers};
+// The link table: its columns, each behind its length among the entries of one column.
+use crate::words::{Column, ENTRIES};
 use link::network::Network;
 use std::alloc::{AllocError, Global};
+use std::ops::Range;
 
 #[derive(Drop)]
 pub struct Table {
@@ -17,52 +18,68 @@ pub struct Table {
     districts: Vec<u32>,
 }
 
-// The column that begins here, and what is behind it.
-fn split(args: &[u64]) -> (&[u64], &[u64]) {
-    match args.split_first() {
-        None => (args, args),
-        Some((n, rest)) => rest.split_at((*n as usize).min(rest.len())),
+// A column of the table, by the place of its length.
+#[derive(Clone, Copy)]
+struct Part<'a> {
+    table: Column<'a>,
+    at: usize,
+}
+
+impl Part<'_> {
+    // Its entries among the table's.
+    fn entries(self) -> Range<usize> {
+        let n = self.table.0.get(self.at).copied().unwrap_or(0);
+        self.at..self.at.saturating_add(n as usize).min(ENTRIES)
+    }
+
+    // The column behind it; where the words end before, it is this one again.
+    fn next(self) -> Self {
+        match self
+            .table
+            .0
+            .get(self.at..)
+            .and_then(|words| words.split_first())
+        {
+            Some((n, behind)) if *n as usize <= behind.len() => Part {
+                at: self.at + 1 + *n as usize,
+                ..self
+            },
+            _ => self,
+        }
+    }
+
+    fn floats(self, alloc: Global) -> Result<Vec<f64>, AllocError> {
+        self.table.floats(alloc, self.entries())
+    }
+
+    fn numbers(self, alloc: Global) -> Result<Vec<u32>, AllocError> {
+        self.table.numbers(alloc, self.entries())
     }
 }
 
 impl Table {
-    pub fn new(alloc: Global) -> Table {
-        Table {
-            links: Vec::new(alloc),
-            lengths: Vec::new(alloc),
-            sets: Vec::new(alloc),
-            elevs: Vec::new(alloc),
-            headings: Vec::new(alloc),
-            limits: Vec::new(alloc),
-            codes: Vec::new(alloc),
-            values: Vec::new(alloc),
-            powers: Vec::new(alloc),
-            districts: Vec::new(alloc),
-        }
-    }
-
-    pub fn read(alloc: Global, args: &[u64]) -> Result<Table, AllocError> {
-        let (links, rest) = split(args);
-        let (lengths, rest) = split(rest);
-        let (sets, rest) = split(rest);
-        let (elevs, rest) = split(rest);
-        let (headings, rest) = split(rest);
-        let (limits, rest) = split(rest);
-        let (codes, rest) = split(rest);
-        let (values, rest) = split(rest);
-        let (powers, rest) = split(rest);
-        let (districts, _) = split(rest);
+    pub fn read(alloc: Global, table: Column) -> Result<Table, AllocError> {
+        let links = Part { table, at: 1 };
+        let lengths = links.next();
+        let sets = lengths.next();
+        let elevs = sets.next();
+        let headings = elevs.next();
+        let limits = headings.next();
+        let codes = limits.next();
+        let values = codes.next();
+        let powers = values.next();
+        let districts = powers.next();
         Ok(Table {
-            links: numbers(alloc, links)?,
-            lengths: floats(alloc, lengths)?,
-            sets: numbers(alloc, sets)?,
-            elevs: floats(alloc, elevs)?,
-            headings: floats(alloc, headings)?,
-            limits: floats(alloc, limits)?,
-            codes: numbers(alloc, codes)?,
-            values: floats(alloc, values)?,
-            powers: floats(alloc, powers)?,
-            districts: numbers(alloc, districts)?,
+            links: links.numbers(alloc)?,
+            lengths: lengths.floats(alloc)?,
+            sets: sets.numbers(alloc)?,
+            elevs: elevs.floats(alloc)?,
+            headings: headings.floats(alloc)?,
+            limits: limits.floats(alloc)?,
+            codes: codes.numbers(alloc)?,
+            values: values.floats(alloc)?,
+            powers: powers.floats(alloc)?,
+            districts: districts.numbers(alloc)?,
         })
     }
 

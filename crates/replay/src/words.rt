@@ -1,21 +1,52 @@
-// The numbers of a line, hexadecimal and apart by blanks, from # on a comment; and what they stand for: numbers, trains, positions and directions.
+// The words of a text: hexadecimal, apart by bytes that are no digits, from # to the line's end a comment. Columns of words, and what
+// they stand for: numbers, trains, positions and directions.
+ghost use Rattle.std.specs.Prelude.{◌≤◌, length};
+
 use link::train_params::{TrainParams, TrainType};
 use lookup::lin_search_hint::Dir;
 use si::{Force, Length, Mass, Ratio, Velocity};
 use std::alloc::{AllocError, Global};
-use std::io;
+use std::ops::Range;
 use train::train_state::TrainState;
 
-fn word(w: &str) -> io::Result<u64> {
-    u64::from_str_radix(w, 16).map_err(|_| io::Error::from(io::ErrorKind::InvalidData))
+// How many words of a text are read, and how many entries of a column.
+const WORDS: usize = 100_000;
+
+pub const ENTRIES: usize = 4096;
+
+// The value of a digit.
+fn digit(b: u8) -> Option<u64> {
+    match b {
+        b'0'..=b'9' => Some(u64::from(b - b'0')),
+        b'a'..=b'f' => Some(u64::from(b - b'a' + 10)),
+        _ => None,
+    }
 }
 
-// The numbers of a line.
-pub fn words(alloc: Global, line: &str) -> io::Result<Vec<u64>> {
-    let text = line.split_once('#').map_or(line, |(before, _)| before);
-    text.split_ascii_whitespace()
-        .map(|w| word(w))
-        .try_collect(alloc)
+// The number of a word's last sixteen digits.
+fn word(digits: &[u8]) -> u64 {
+    digits
+        .iter()
+        .fold(0, |n: u64, b| (n << 4) | digit(*b).unwrap_or(0))
+}
+
+// What stands before a line's comment.
+fn without_comment(line: &[u8]) -> &[u8] {
+    line.split(|b: &u8| *b == b'#').next().unwrap_or(line)
+}
+
+// The words of a text, with zeros behind them. (The closure of `flat_map` would need a type that has no name.)
+pub fn words(alloc: Global, text: &[u8]) -> Result<Vec<u64>, AllocError> {
+    let mut all = Vec::new(alloc);
+    for line in text.split(|b| *b == b'\n') {
+        for w in without_comment(line).split(|b| digit(*b).is_none()) {
+            if !w.is_empty() {
+                all.push(word(w))?;
+            }
+        }
+    }
+    all.resize(WORDS, 0)?;
+    Ok(all)
 }
 
 // The f64 of its bits; every NaN is the same.
@@ -31,26 +62,67 @@ fn number_of(word: u64) -> u32 {
     u32::try_from(word).unwrap_or(u32::MAX)
 }
 
-// Entry i; 0 where there is none.
-pub fn entry(args: &[u64], i: usize) -> u64 {
-    args.get(i).copied().unwrap_or(0)
-}
+// A column: its length, its entries, and what is behind them among the words.
+#[derive(Clone, Copy)]
+pub struct Column<'a>(pub &'a [u64]);
 
-pub fn float_at(args: &[u64], i: usize) -> f64 {
-    float_of(entry(args, i))
-}
+impl<'a> Column<'a> {
+    fn count(self) -> usize {
+        self.0.first().map_or(0, |n| *n as usize)
+    }
 
-fn number_at(args: &[u64], i: usize) -> u32 {
-    number_of(entry(args, i))
-}
+    // How many of its entries are read.
+    pub fn held(self) -> usize {
+        self.count().min(ENTRIES)
+    }
 
-// Each number as an f64, and as one of 32 bits.
-pub fn floats(alloc: Global, args: &[u64]) -> Result<Vec<f64>, AllocError> {
-    args.iter().map(|w| Ok(float_of(*w))).try_collect(alloc)
-}
+    // What is behind its length, up to the words' end.
+    fn entries(self) -> &'a [u64]
+        ensures { length result.now ≤ length self.entry.0.now }
+    {
+        match self.0 {
+            [_, entries @ ..] => entries,
+            [] => &[],
+        }
+    }
 
-pub fn numbers(alloc: Global, args: &[u64]) -> Result<Vec<u32>, AllocError> {
-    args.iter().map(|w| Ok(number_of(*w))).try_collect(alloc)
+    // The words behind its entries.
+    pub fn behind(self) -> &'a [u64]
+        ensures { length result.now ≤ length self.entry.0.now }
+    {
+        let entries = self.entries();
+        let n = self.count();
+        if n <= entries.len() {
+            &entries[n..]
+        } else {
+            &[]
+        }
+    }
+
+    // Entry i; 0 where there is none.
+    pub fn entry(self, i: usize) -> u64 {
+        if self.count() <= i {
+            return 0;
+        }
+        self.entries().get(i).copied().unwrap_or(0)
+    }
+
+    pub fn float_at(self, i: usize) -> f64 {
+        float_of(self.entry(i))
+    }
+
+    fn number_at(self, i: usize) -> u32 {
+        number_of(self.entry(i))
+    }
+
+    // These entries, each as an f64, and as a number of 32 bits.
+    pub fn floats(self, alloc: Global, part: Range<usize>) -> Result<Vec<f64>, AllocError> {
+        part.map(|i| Ok(self.float_at(i))).try_collect(alloc)
+    }
+
+    pub fn numbers(self, alloc: Global, part: Range<usize>) -> Result<Vec<u32>, AllocError> {
+        part.map(|i| Ok(self.number_at(i))).try_collect(alloc)
+    }
 }
 
 fn type_of(code: u32) -> TrainType {
@@ -65,27 +137,27 @@ fn type_of(code: u32) -> TrainType {
     }
 }
 
-pub fn train(args: &[u64]) -> TrainParams {
+pub fn train(args: Column) -> TrainParams {
     TrainParams {
-        length: Length(float_at(args, 0)),
-        speed_max: Velocity(float_at(args, 1)),
-        towed_mass_static: Mass(float_at(args, 2)),
-        mass_per_brake: Mass(float_at(args, 3)),
-        axle_count: number_at(args, 7),
-        train_type: type_of(number_at(args, 8)),
-        curve_coeff_0: Ratio(float_at(args, 4)),
-        curve_coeff_1: Ratio(float_at(args, 5)),
-        curve_coeff_2: Ratio(float_at(args, 6)),
+        length: Length(args.float_at(0)),
+        speed_max: Velocity(args.float_at(1)),
+        towed_mass_static: Mass(args.float_at(2)),
+        mass_per_brake: Mass(args.float_at(3)),
+        axle_count: args.number_at(7),
+        train_type: type_of(args.number_at(8)),
+        curve_coeff_0: Ratio(args.float_at(4)),
+        curve_coeff_1: Ratio(args.float_at(5)),
+        curve_coeff_2: Ratio(args.float_at(6)),
     }
 }
 
 // A position, not yet placed on a link.
-pub fn state(args: &[u64]) -> TrainState {
+pub fn state(args: Column) -> TrainState {
     TrainState {
-        offset: Length(float_at(args, 0)),
-        offset_back: Length(float_at(args, 1)),
-        length: Length(float_at(args, 2)),
-        weight_static: Force(float_at(args, 3)),
+        offset: Length(args.float_at(0)),
+        offset_back: Length(args.float_at(1)),
+        length: Length(args.float_at(2)),
+        weight_static: Force(args.float_at(3)),
         link_idx_front: 0,
         link_idx_back: 0,
         offset_in_link: Length(0.0),
