@@ -4,29 +4,49 @@ use native.Mathlib.Numerals.{add-one}
 use native.Mathlib.Omega.{arith}
 use mathlib.Core.Path.{◌≡◌, refl, sym, ap, ◌∙◌}
 use mathlib.Core.Bool.{Bool, true, false, not, cond}
-use mathlib.Core.List.{List, []}
-use borrow.Author.Tests.{not-true, not-false, le-leb, lt-leb, lt-ltb, le-ltb, eq-eqb, ne_eqb}
-use lib.ListN.{length, take, drop, get_or, drop_of_length-le}
-use lib.Seq.{drop-cons}
-use Rattle.route.specs.Text.{past, field_from, field, bytes_of, in_line, next_line}
+use mathlib.Core.List.{List, [], ◌∷◌}
+use borrow.Author.Tests.{le-leb, lt-leb, lt-ltb, le-ltb}
+use lib.ListN.{length, take, drop, length-drop}
+use Rattle.std.proofs.Common.{Option, Some, None, unwrap_or, position, nat_lt, ltb-false, ltb-true}
+use Rattle.std.proofs.lemmas.Option.{cond_some}
+use Rattle.std.specs.List.{position_or_len}
+use Rattle.route.specs.Text.{run, past, field_from, field, bytes_of, in_line, next_line}
 use Rattle.route.specs.declared.text.Span.{Span}
 
--- ---- the first place from i on that fails the test p, where r is the test of the byte at i
-module _ (p : ℕ → Bool) (l : List ℕ) (i : ℕ) where
-  past-here : (r : Bool) → i < length l → r ≡ p (get_or l i 0) → past p l i ≡ cond r (past p l (i + 1)) i
+-- ---- how many bytes at the front are p, by the place of the first that is not
+module _ (p : ℕ → Bool) where
+  run-prefix-step : (r : Bool) (m n : ℕ) → m ≡ n → cond (not (not r)) (1 + m) 0 ≡ cond r (suc n) 0
+  run-prefix-step true m n e = omega (arith, e)
+  run-prefix-step false m n e = refl
+
+  run-prefix : (l : List ℕ) → position_or_len (λ b. not (p b)) l ≡ run p l
+  unfolding run
+  run-prefix [] = refl
+  run-prefix (b ∷ l) = run-prefix-step (p b) (position_or_len (λ b. not (p b)) l) (run p l) (run-prefix l)
+
+  run-le-step : (r : Bool) (m n : ℕ) → m ≤ n → cond r (suc m) 0 ≤ suc n
+  run-le-step true m n h = omega arith
+  run-le-step false m n h = omega arith
+
+  run-le : (l : List ℕ) → run p l ≤ length l
+  unfolding run
+  run-le [] = omega arith
+  run-le (b ∷ l) = run-le-step (p b) (run p l) (length l) (run-le l)
+
+  found-or : (t : Bool) (m n : ℕ) → (t ≡ false → n ≡ m) → unwrap_or (cond t (Some m) None) n ≡ m
+  found-or true m n h = refl
+  found-or false m n h = h refl
+
+  run-found : (l : List ℕ) → unwrap_or (position (λ b. not (p b)) l) (length l) ≡ run p l
+  run-found l =
+      let m = position_or_len (λ b. not (p b)) l in
+      let same : m ≡ run p l = run-prefix l in
+      found-or (nat_lt m (length l)) m (length l) (λ e. omega (arith, ltb-false m (length l) e, run-le l, same)) ∙ same
+
+  -- the first place from `at` on that is not p, where r is the first such place in what is behind `at`
+  pub past-found : (l : List ℕ) (at : ℕ) (rest : List ℕ) (r : Option ℕ) (n : ℕ) → rest ≡ drop at l → r ≡ position (λ b. not (p b)) rest → n ≡ unwrap_or r (length rest) → at + n ≡ past p l at
   unfolding past
-  past-here true h e = rw (drop-cons l i 0 h, ← e, add-one) (omega arith)
-  past-here false h e = rw (drop-cons l i 0 h, ← e) (omega arith)
-
-  pub past_next : (r : Bool) → i < length l → r ≡ p (get_or l i 0) → not r ≡ false → past p l (i + 1) ≡ past p l i
-  past_next r h e n = sym (past-here true h (sym (not-false r n) ∙ e))
-
-  pub past_stop : (r : Bool) → i < length l → r ≡ p (get_or l i 0) → not r ≡ true → i ≡ past p l i
-  past_stop r h e n = sym (past-here false h (sym (not-true r n) ∙ e))
-
-  pub past_end : length l ≤ i → i ≡ past p l i
-  unfolding past
-  past_end h = rw (drop_of_length-le l h) (omega arith)
+  past-found l at rest r n e f g = rw (g, f, e, run-found (drop at l))
 
 -- ---- the field behind field i
 field-suc : (text : List ℕ) (at i : ℕ) → field text at (suc i) ≡ field_from text (field text at i).to
@@ -39,33 +59,43 @@ field_next text at i s t e f = f ∙ ap (λ (u : Span). field_from text u.to) e 
 
 -- ---- the bytes of a span
 module _ (text : List ℕ) (s : Span) where
-  pub bytes-outside : length text < s.to → [] ≡ bytes_of text s
-  unfolding bytes_of
-  bytes-outside h = rw (lt-leb s.to (length text) h)
-
   pub bytes_inside : s.to ≤ length text → take (s.to - s.from) (drop s.from text) ≡ bytes_of text s
   unfolding bytes_of
   bytes_inside h = rw (le-leb s.to (length text) h)
+
+  pub bytes-outside : length text < s.to → [] ≡ bytes_of text s
+  unfolding bytes_of
+  bytes-outside h = rw (lt-leb s.to (length text) h)
 
   pub bytes-none : s.to ≤ length text → s.to < s.from → [] ≡ bytes_of text s
   bytes-none h k =
       let e : s.to - s.from ≡ 0 = omega arith in
       rw e at (bytes_inside h)
 
--- ---- the line behind the one at `at`: the line end at or behind i is the one at or behind `at`
-module _ (l : List ℕ) (at i : ℕ) where
-  pub line_on : i < length l → (get_or l i 0 ≡ 10 → ⊥) → past in_line l (i + 1) ≡ past in_line l i
-  unfolding in_line
-  line_on h n = past_next in_line l i true h (rw (ne_eqb (get_or l i 0) 10 n)) refl
+-- ---- the line behind the one at `at`, by the first line end in what is behind `at`
+cond-none : (t : Bool) (x : ℕ) → cond t (Some x) None ≡ None → t ≡ false
+cond-none true x e = absurd (cc)
+cond-none false x e = refl
 
-  pub line-end : i < length l → get_or l i 0 ≡ 10 → past in_line l i ≡ past in_line l at → i + 1 ≡ next_line l at
-  unfolding in_line next_line
-  line-end h n e =
-      let here : i ≡ past in_line l at = past_stop in_line l i false h (rw (eq-eqb (get_or l i 0) 10 n)) refl ∙ e in
-      rw (← here, lt-ltb i (length l) h, add-one)
+module _ (l : List ℕ) (at : ℕ) (rest : List ℕ) (r : Option ℕ) (e : rest ≡ drop at l) (f : r ≡ position (λ b. not (in_line b)) rest) where
+  abbrev end : ℕ
+  end = position_or_len (λ b. not (in_line b)) (drop at l)
 
-  pub line-last : i ≡ length l → past in_line l i ≡ past in_line l at → i ≡ next_line l at
-  unfolding next_line
-  line-last h e =
-      let here : i ≡ past in_line l at = past_end in_line l i (omega arith) ∙ e in
-      rw (← here, le-ltb i (length l) (omega arith)) h
+  found-at : (o : Option ℕ) → r ≡ o → position (λ b. not (in_line b)) (drop at l) ≡ o
+  found-at o g = rw (← e, ← f) g
+
+  pub line-found : (k : ℕ) → r ≡ Some k → at + k + 1 ≡ next_line l at
+  unfolding next_line past
+  line-found k g =
+      let both = cond_some (nat_lt end (length (drop at l))) end k (found-at (Some k) g) in
+      let same : k ≡ run in_line (drop at l) = sym both.1 ∙ run-prefix in_line (drop at l) in
+      let within : end < length (drop at l) = ltb-true end (length (drop at l)) both.0 in
+      let here : at + run in_line (drop at l) < length l = omega (arith, same, both.1, within, length-drop at l) in
+      rw (lt-ltb (at + run in_line (drop at l)) (length l) here) (omega (arith, same))
+
+  pub line-last : at < length l → r ≡ None → length l ≡ next_line l at
+  unfolding next_line past
+  line-last h g =
+      let nowhere : length (drop at l) ≤ end = ltb-false end (length (drop at l)) (cond-none (nat_lt end (length (drop at l))) end (found-at None g)) in
+      let here : length l ≤ at + run in_line (drop at l) = omega (arith, nowhere, run-prefix in_line (drop at l), length-drop at l) in
+      rw (le-ltb (at + run in_line (drop at l)) (length l) here)

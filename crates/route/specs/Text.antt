@@ -1,5 +1,5 @@
 -- Fields of a line of text: apart by blanks, up to the line's end or a comment. Bytes are numbers. Definitions only.
-use Rattle.std.specs.Prelude.{ℕ, zero, suc, ◌+◌, ◌-◌, Bool, ◌||◌, not, cond, List, [], ◌∷◌, eqb, leb, ltb, length, take, drop}
+use Rattle.std.specs.Prelude.{ℕ, zero, suc, ◌+◌, ◌-◌, Bool, ◌||◌, not, cond, List, [], ◌∷◌, eqb, leb, ltb, length, take, drop, Option, Some, None, ◌≡◌}
 use Rattle.route.specs.declared.text.Span.{Span}
 
 -- a blank, a tab or a carriage return
@@ -45,3 +45,9 @@ unfolding in_line past
 next_line text at =
     let end = past in_line text at in
     cond (ltb end (length text)) (suc end) (length text)
+
+-- the line at `at` of a text is the next one, where there is one, and the one behind it comes next
+pub record NextLine (text : List ℕ) (at : ℕ) (line : Option ℕ) (text' : List ℕ) (at' : ℕ) : Type 0 where
+  pub same : text' ≡ text
+  pub told : line ≡ cond (ltb at (length text)) (Some at) None
+  pub behind : at' ≡ cond (ltb at (length text)) (next_line text at) at

@@ -6,10 +6,25 @@ use crate::fields::{
     bytes_at, comparison_code, count_at, figure_code, float_at, head_code, place_of, type_of,
 };
 use crate::kinds::{Kind, TableLine, kind_of};
-use crate::text::next_line;
+use crate::text::lines;
 use column::{Three, Two};
 use link::train_params::{TrainParams, TrainType};
 use si::{Length, Mass, Ratio, Velocity};
+
+// The columns of a link table, to be filled.
+#[derive(Drop)]
+pub struct TableColumns<'a> {
+    pub links: &'a mut [u32],
+    pub lengths: &'a mut [f64],
+    pub sets: &'a mut [u32],
+    pub elevs: &'a mut [f64],
+    pub headings: &'a mut [f64],
+    pub limits: &'a mut [f64],
+    pub codes: &'a mut [u32],
+    pub values: &'a mut [f64],
+    pub powers: &'a mut [f64],
+    pub districts: &'a mut [u32],
+}
 
 // The link and the set place that a line belongs to, and how many records of each pool stand before it.
 #[derive(Clone, Copy)]
@@ -103,21 +118,15 @@ fn put_set(text: &[u8], at: usize, h: Here, sets: &mut [u32]) {
 }
 
 // A line of a link or of a set: its numbers go into the columns, and its record counts for the link or the set.
-fn put_in_links(
-    text: &[u8],
-    at: usize,
-    line: TableLine,
-    h: Here,
-    links: &mut [u32],
-    lengths: &mut [f64],
-    sets: &mut [u32],
-) {
+fn put_in_links(text: &[u8], at: usize, line: TableLine, h: Here, table: &mut TableColumns) {
+    let links = &mut *table.links;
+    let sets = &mut *table.sets;
     match line {
         TableLine::Train => {}
         TableLine::Link => {
             put_link(text, at, h, &mut *links);
             put_firsts(h, &mut *links);
-            column::set(&mut *lengths, h.link, float_at(text, at, 2));
+            column::set(&mut *table.lengths, h.link, float_at(text, at, 2));
         }
         TableLine::Elev => bump(&mut *links, link_entry(h.link) + 6),
         TableLine::Heading => bump(&mut *links, link_entry(h.link) + 8),
@@ -141,42 +150,30 @@ fn triple_at(text: &[u8], at: usize) -> Three {
 }
 
 // A line of a pool: its numbers become the pool's next record.
-fn put_in_pools(
-    text: &[u8],
-    at: usize,
-    line: TableLine,
-    h: Here,
-    elevs: &mut [f64],
-    headings: &mut [f64],
-    limits: &mut [f64],
-    codes: &mut [u32],
-    values: &mut [f64],
-    link_powers: &mut [f64],
-    link_districts: &mut [u32],
-) {
+fn put_in_pools(text: &[u8], at: usize, line: TableLine, h: Here, table: &mut TableColumns) {
     match line {
         TableLine::Train | TableLine::Link | TableLine::Set => {}
         TableLine::Elev => {
-            column::put_record(&mut *elevs, h.elevs as usize, pair_at(text, at));
+            column::put_record(&mut *table.elevs, h.elevs as usize, pair_at(text, at));
         }
         TableLine::Heading => {
-            column::put_record(&mut *headings, h.headings as usize, pair_at(text, at));
+            column::put_record(&mut *table.headings, h.headings as usize, pair_at(text, at));
         }
         TableLine::Limit => {
-            column::put_record(&mut *limits, h.limits as usize, triple_at(text, at));
+            column::put_record(&mut *table.limits, h.limits as usize, triple_at(text, at));
         }
         TableLine::When => {
             let k = h.conditions as usize;
             let figure = figure_code(bytes_at(text, at, 1)).unwrap_or(0);
             let comparison = comparison_code(bytes_at(text, at, 2)).unwrap_or(0);
-            column::set(&mut *codes, 2 * k, figure);
-            column::set(&mut *codes, 2 * k + 1, comparison);
-            column::set(&mut *values, k, float_at(text, at, 3));
+            column::set(&mut *table.codes, 2 * k, figure);
+            column::set(&mut *table.codes, 2 * k + 1, comparison);
+            column::set(&mut *table.values, k, float_at(text, at, 3));
         }
         TableLine::Power => {
             let k = h.powers as usize;
-            column::put_record(&mut *link_powers, k, triple_at(text, at));
-            column::set(&mut *link_districts, k, count_at(text, at, 4));
+            column::put_record(&mut *table.powers, k, triple_at(text, at));
+            column::set(&mut *table.districts, k, count_at(text, at, 4));
         }
     }
 }
@@ -207,41 +204,15 @@ fn leave(line: TableLine, h: Here) -> Here {
 }
 
 // The link table of a route, into columns that are zero.
-pub fn fill_table(
-    text: &[u8],
-    links: &mut [u32],
-    lengths: &mut [f64],
-    sets: &mut [u32],
-    elevs: &mut [f64],
-    headings: &mut [f64],
-    limits: &mut [f64],
-    codes: &mut [u32],
-    values: &mut [f64],
-    link_powers: &mut [f64],
-    link_districts: &mut [u32],
-) {
+pub fn fill_table(text: &[u8], table: &mut TableColumns) {
     let mut h = nowhere();
-    let mut at = 0;
-    while at < text.len() {
+    for at in lines(text) {
         if let Kind::Table(line) = kind_of(text, at) {
             h = arrive(text, at, line, h);
-            put_in_links(text, at, line, h, &mut *links, &mut *lengths, &mut *sets);
-            put_in_pools(
-                text,
-                at,
-                line,
-                h,
-                &mut *elevs,
-                &mut *headings,
-                &mut *limits,
-                &mut *codes,
-                &mut *values,
-                &mut *link_powers,
-                &mut *link_districts,
-            );
+            put_in_links(text, at, line, h, table);
+            put_in_pools(text, at, line, h, table);
             h = leave(line, h);
         }
-        at = next_line(text, at);
     }
 }
 

@@ -7,7 +7,7 @@ use crate::fields::{
     type_of, whole_at,
 };
 use crate::kinds::{Call, Kind, TableLine, kind_of};
-use crate::text::next_line;
+use crate::text::lines;
 use crate::wanted::Wanted;
 
 // How many records of each kind the link table has room for.
@@ -133,14 +133,7 @@ fn misfit_in_list(text: &[u8], at: usize) -> Option<usize>
     Some(LIST + 1)
 }
 
-// The first field that a line of the train or of the link table does not have as it should.
-fn table_misfit(text: &[u8], at: usize, line: TableLine) -> Option<usize>
-    ensures { result ≡ spec.table_misfit text.now at line }
-{
-    misfit(text, at, line.form())
-}
-
-// The same for a call.
+// The same for a call, by its form or as a list.
 fn call_misfit(text: &[u8], at: usize, call: Call) -> Option<usize>
     ensures { result ≡ spec.call_misfit text.now at call }
 {
@@ -252,7 +245,7 @@ fn record_line(text: &[u8], at: usize, line: TableLine, s: Seen) -> Result<Seen,
 
 // A line of the train or of the link table.
 fn table_line(text: &[u8], at: usize, line: TableLine, s: Seen) -> Result<Seen, Fault> {
-    if let Some(field) = table_misfit(text, at, line) {
+    if let Some(field) = misfit(text, at, line.form()) {
         return Err(Fault::TableField(line, field));
     }
     record_line(text, at, line, s)
@@ -280,12 +273,10 @@ fn line_seen(text: &[u8], at: usize, s: Seen) -> Result<Seen, Fault> {
 // All lines, up to the first that cannot be read; a route without a train is refused at its end.
 pub fn judge(text: &[u8]) -> Result<Judged, LineFault> {
     let mut seen = nothing_seen();
-    let mut at = 0;
     let mut line: usize = 0;
-    while at < text.len() {
+    for at in lines(text) {
         line = line.saturating_add(1);
         seen = line_seen(text, at, seen).map_err(|fault| LineFault { line, fault })?;
-        at = next_line(text, at);
     }
     let Some(train_at) = seen.train_at else {
         return Err(LineFault {

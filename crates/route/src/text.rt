@@ -1,5 +1,6 @@
 // Lines of a text and their fields: fields are apart by blanks, and from # to the line's end is a comment.
-ghost use Rattle.std.specs.Prelude.{◌≡◌, cond, ◌<◌, length};
+ghost use Rattle.std.specs.Prelude.{◌≡◌, ◌<◌, length, drop, ◌-◌, position, not};
+ghost use Rattle.std.specs.Iterator.{at_most};
 ghost use Rattle.route.specs.Text as spec;
 
 // Where a field begins and ends; at one place where there is none.
@@ -9,39 +10,67 @@ pub struct Span {
     pub to: usize,
 }
 
-// Whether a byte is a blank, or with `field` one that belongs to a field.
-fn passed(b: u8, field: bool) -> bool
-    ensures { result ≡ cond field spec.in_field spec.is_blank b }
+#[tactic(auto, unfolding(crate::specs::Text::is_blank))]
+fn is_blank(b: u8) -> bool
+    ensures { result ≡ spec.is_blank b }
 {
-    let blank = (b == 32) | ((b == 9) | (b == 13));
-    if field {
-        return !(blank | ((b == 10) | (b == 35)));
-    }
-    blank
+    (b == b' ') | ((b == b'\t') | (b == b'\r'))
 }
 
-// The first place from `at` on where no blank stands, or with `field` that belongs to no field.
-fn past(text: &[u8], at: usize, field: bool) -> usize
-    ensures { result ≡ spec.past (cond field spec.in_field spec.is_blank) text.now at }
+// Whether a byte belongs to a field.
+#[tactic(auto, unfolding(crate::specs::Text::in_field))]
+fn in_field(b: u8) -> bool
+    ensures { result ≡ spec.in_field b }
 {
-    let mut i = at;
-    while i < text.len() {
-        if !passed(text[i], field) {
-            return i;
-        }
-        i += 1;
-    }
-    i
+    !(is_blank(b) | ((b == b'\n') | (b == b'#')))
+}
+
+// Whether a byte is no line end.
+#[tactic(auto, unfolding(crate::specs::Text::in_line))]
+fn in_line(b: u8) -> bool
+    ensures { result ≡ spec.in_line b }
+{
+    b != b'\n'
+}
+
+// The text from `at` on.
+fn rest(text: &[u8], at: usize) -> &[u8]
+    ensures { result.now ≡ drop at text.now }
+{
+    text.get(at..).unwrap_or(&[])
+}
+
+// The first place without a blank.
+fn first_unblank(text: &[u8]) -> Option<usize>
+    ensures { result ≡ position (λ b. not (spec.is_blank b)) text.now }
+{
+    text.iter().position(|b| !is_blank(*b))
+}
+
+// The first place that belongs to no field.
+fn first_outside(text: &[u8]) -> Option<usize>
+    ensures { result ≡ position (λ b. not (spec.in_field b)) text.now }
+{
+    text.iter().position(|b| !in_field(*b))
+}
+
+// The first line end.
+fn first_end(text: &[u8]) -> Option<usize>
+    ensures { result ≡ position (λ b. not (spec.in_line b)) text.now }
+{
+    text.iter().position(|b| !in_line(*b))
 }
 
 // The field that begins at `at` or behind the blanks there.
 pub fn field_from(text: &[u8], at: usize) -> Span
     ensures { result ≡ spec.field_from text.now at }
 {
-    let from = past(text, at, false);
+    let blanks = rest(text, at);
+    let from = at + first_unblank(blanks).unwrap_or(blanks.len());
+    let field = rest(text, from);
     Span {
         from,
-        to: past(text, from, true),
+        to: from + first_outside(field).unwrap_or(field.len()),
     }
 }
 
@@ -76,10 +105,39 @@ pub fn next_line(text: &[u8], at: usize) -> usize
     requires { at < length text.now }
     ensures { (result ≡ spec.next_line text.now at) × (at < result) }
 {
-    for i in at..text.len() {
-        if text[i] == 10 {
-            return i + 1;
-        }
+    match first_end(rest(text, at)) {
+        Some(k) => at + k + 1,
+        None => text.len(),
     }
-    text.len()
+}
+
+// The lines of a text: where each begins.
+#[derive(Drop)]
+pub struct LineStarts<'a> {
+    text: &'a [u8],
+    at: usize,
+}
+
+pub fn lines(text: &[u8]) -> LineStarts<'_>
+    ensures text { result.text.now ≡ text.now }
+    ensures from_its_beginning { result.at ≡ 0 }
+{
+    LineStarts { text, at: 0 }
+}
+
+impl Iterator for LineStarts<'_> {
+    type Item = usize;
+
+    ghost next_gives = { λ l line m. spec.NextLine l.text.now l.at line m.text.now m.at };
+
+    ghost remaining = { λ l. at_most (length l.text.now - l.at) };
+
+    fn next(&mut self) -> Option<usize> {
+        let at = self.at;
+        if self.text.len() <= at {
+            return None;
+        }
+        self.at = next_line(self.text, at);
+        Some(at)
+    }
 }
