@@ -1,127 +1,115 @@
 // What the original Rust posts behind a drop, beside what is posted here: its own run of the same calls is followed in a column of its speed points.
-use crate::columns::Original;
 use original::run::{begin, drop_before, lay, posted_by_original};
 use route::kinds::Call;
-use show::{put, put_count, put_real};
+use show::{Rounded, Sink};
 use si::{Length, Velocity};
 use speed::laid::Laid;
 use view::holders::lowest_below;
 
-// Its run: how many speed points it has, and whether it goes on, stopped at a drop, or is not followed for want of room.
+// How the original's run stands: it goes on with so many speed points, stopped at the last drop or at an earlier one, or is not followed for want of room.
 #[derive(Clone, Copy)]
-pub struct Course {
-    pub points: usize,
-    pub state: u32,
+pub enum Course {
+    GoesOn(usize),
+    Stopped,
+    StoppedBefore,
+    NotFollowed,
 }
 
-const GOES_ON: u32 = 0;
-
-const STOPPED: u32 = 1;
-
-const STOPPED_BEFORE: u32 = 2;
-
-const NOT_FOLLOWED: u32 = 3;
-
-pub fn no_course() -> Course {
-    Course {
-        points: 0,
-        state: NOT_FOLLOWED,
-    }
+// Its run, in a column of its speed points.
+#[derive(Drop)]
+pub struct Original<'a> {
+    pub column: &'a mut [f64],
+    pub course: Course,
 }
 
-// A course that goes on with so many points; without points it is in the state given.
-fn with_points(points: usize, state: u32) -> Course {
+// What a call that is done leaves: the path's beginning and the train's top speed, whether links were dropped, and whether all limits have a record.
+#[derive(Clone, Copy)]
+pub struct Done {
+    pub begin: Length,
+    pub top: Velocity,
+    pub drops: bool,
+    pub fits: bool,
+}
+
+// A course that goes on with so many points; without points it is the one given.
+fn with_points(points: usize, none: Course) -> Course {
     if 0 < points {
-        return Course {
-            points,
-            state: GOES_ON,
-        };
+        Course::GoesOn(points)
+    } else {
+        none
     }
-    Course { points, state }
 }
 
-// Behind a call that is done: x is the path's beginning, `laid` are the limits that it laid, `links` says whether links were dropped, `fits` whether all
-// limits have a record.
-pub fn course_behind(
-    kind: Call,
-    c: Course,
-    x: Length,
-    top: Velocity,
-    laid: &[Laid],
-    links: bool,
-    fits: bool,
-    points: &mut Original,
-) -> Course {
-    if kind == Call::New {
-        return with_points(begin(&mut *points, x, top), NOT_FOLLOWED);
+impl Course {
+    // Behind such a call.
+    fn behind(self, call: Call, done: Done, laid: &[Laid], column: &mut [f64]) -> Course {
+        let x = done.begin;
+        if call == Call::New {
+            return with_points(begin(column, x, done.top), Course::NotFollowed);
+        }
+        match self {
+            Course::GoesOn(n) => gone_on(n, call, done, laid, column),
+            Course::Stopped => Course::StoppedBefore,
+            other => other,
+        }
     }
-    if c.state == STOPPED {
-        return Course {
-            points: 0,
-            state: STOPPED_BEFORE,
-        };
+}
+
+// The same for one that went on with n points, behind another call than `new`.
+fn gone_on(n: usize, call: Call, done: Done, laid: &[Laid], column: &mut [f64]) -> Course {
+    let x = done.begin;
+    match call {
+        Call::Clear if done.drops => with_points(drop_before(column, n, x), Course::Stopped),
+        Call::Extend if done.fits => with_points(lay(column, n, laid), Course::NotFollowed),
+        Call::Recalculate if done.fits => {
+            let n = begin(&mut *column, x, done.top);
+            with_points(lay(column, n, laid), Course::NotFollowed)
+        }
+        Call::Extend | Call::Recalculate => Course::NotFollowed,
+        _ => Course::GoesOn(n),
     }
-    if c.state != GOES_ON {
-        return c;
-    }
-    if (kind == Call::Clear) & links {
-        return with_points(drop_before(&mut *points, c.points, x), STOPPED);
-    }
-    if (kind != Call::Extend) & (kind != Call::Recalculate) {
-        return c;
-    }
-    if !fits {
-        return no_course();
-    }
-    let n = if kind == Call::Recalculate {
-        begin(&mut *points, x, top)
-    } else {
-        c.points
-    };
-    with_points(lay(&mut *points, n, laid), NOT_FOLLOWED)
 }
 
 // The limit that the original loses at x, where it posts v: a limit that covers x and is smaller.
-fn lost(out: i32, x: Length, v: f64, limits: &[Laid]) {
+fn lost(out: Sink, x: Length, v: f64, limits: &[Laid]) {
     if let Some(l) = lowest_below(limits, x.0, v) {
-        put(out, b": it loses a limit, ");
-        put_real(out, l.value);
-        put(out, b" of link ");
-        put_count(out, l.link as usize);
+        write!(
+            out,
+            ": it loses a limit, {} of link {}",
+            Rounded(l.value),
+            l.link
+        );
     }
-    put(out, b"\n");
+    write!(out, "\n");
 }
 
-// Both at the path's new beginning x, where `here` is posted, with the limits that were laid.
-pub fn side_by_side(
-    out: i32,
-    x: Length,
-    here: Velocity,
-    c: Course,
-    points: &Original,
-    limits: &[Laid],
-) {
-    put(out, b"  here:          ");
-    put_real(out, here.0);
-    put(out, b" posted at ");
-    put_real(out, x.0);
-    put(out, b"\n  original Rust: ");
-    if c.state == GOES_ON {
-        let v = posted_by_original(points, c.points, Length(x.0)).0;
-        put_real(out, v);
-        put(out, b" posted at ");
-        put_real(out, x.0);
-        lost(out, x, v, limits);
-    } else if c.state == STOPPED {
-        put(out, b"stops here, no speed point is at or past ");
-        put_real(out, x.0);
-        put(out, b"\n");
-    } else if c.state == STOPPED_BEFORE {
-        put(out, b"stopped at an earlier drop\n");
-    } else {
-        put(
+impl Original<'_> {
+    // Behind a call that is done, and laid these limits.
+    pub fn follow(&mut self, call: Call, done: Done, laid: &[Laid]) {
+        let course = self.course;
+        self.course = course.behind(call, done, laid, &mut *self.column);
+    }
+
+    // Both at the path's new beginning x, where `here` is posted, with the limits that were laid.
+    pub fn side_by_side(&self, out: Sink, x: Length, here: Velocity, limits: &[Laid]) {
+        let at = Rounded(x.0);
+        let posted = Rounded(here.0);
+        write!(
             out,
-            b"not followed, its speed points or the limits laid are more than there is room for\n",
+            "  here:          {posted} posted at {at}\n  original Rust: "
         );
+        match self.course {
+            Course::GoesOn(n) => {
+                let v = posted_by_original(&*self.column, n, Length(x.0)).0;
+                write!(out, "{} posted at {at}", Rounded(v));
+                lost(out, x, v, limits);
+            }
+            Course::Stopped => write!(out, "stops here, no speed point is at or past {at}\n"),
+            Course::StoppedBefore => write!(out, "stopped at an earlier drop\n"),
+            Course::NotFollowed => write!(
+                out,
+                "not followed, its speed points or the limits laid are more than there is room for\n"
+            ),
+        }
     }
 }

@@ -1,38 +1,16 @@
 // The columns that a run needs: the link table, the path, and what was joined.
 ghost use Rattle.std.specs.Prelude.{◌≤◌};
 
+use crate::beside::{Course, Original};
 use crate::progress::Clock;
-use crate::session::{Counts, run};
-use route::fill::fill_table;
-use route::judge::Judged;
-use show::To;
+use crate::session::{Counts, Joined, Route, Run, no_path, run_lines};
+use link::network::Network;
+use path::columns::PathColumnsMut;
+use route::fill::{TableColumns, fill_table, train_of};
 use speed::laid::Laid;
+use std::rt;
+use view::history::History;
 use view::profile::{Border, Height};
-
-// The columns of a path at the bounds of R12.
-pub type Offsets = [f64; 1025];
-
-pub type Numbers = [u32; 4100];
-
-pub type Grades = [f64; 49152];
-
-pub type Curves = [f64; 49152];
-
-pub type Speeds = [f64; 8192];
-
-pub type Powers = [f64; 3072];
-
-pub type Districts = [u32; 1024];
-
-// The columns of what was joined.
-pub type Limits = [Laid; 32768];
-
-pub type Borders = [Border; 2048];
-
-pub type Heights = [Height; 32768];
-
-// The speed points of the original in its own run.
-pub type Original = [f64; 16384];
 
 // The first n entries of a column, all where it has fewer.
 pub fn cut<T>(col: &[T], n: usize) -> &[T] {
@@ -48,31 +26,28 @@ pub fn part<T>(col: &[T], from: usize, to: usize) -> &[T] {
 fn last_link(n: usize) -> usize
     ensures { result ≤ 1024 }
 {
-    if n < 1024 {
-        return n;
+    n.min(1024)
+}
+
+// The table, its links cut to those of a route.
+fn network<'a>(table: &'a TableColumns, links: usize) -> Network<'a> {
+    let n = last_link(links);
+    Network {
+        links: cut(&*table.links, 11 * n + 11),
+        lengths: cut(&*table.lengths, n + 1),
+        sets: cut(&*table.sets, 48 * n + 48),
+        elevs: &*table.elevs,
+        headings: &*table.headings,
+        limits: &*table.limits,
+        codes: &*table.codes,
+        values: &*table.values,
+        powers: &*table.powers,
+        districts: &*table.districts,
     }
-    1024
 }
 
 // A run on a path with columns at the bounds of R12.
-fn with_path<R: std::rt::Clock>(
-    sys: &R,
-    to: To,
-    clock: Clock,
-    name: &[u8],
-    text: &[u8],
-    judged: Judged,
-    links: &[u32],
-    lengths: &[f64],
-    sets: &[u32],
-    elevs: &[f64],
-    headings: &[f64],
-    limits: &[f64],
-    codes: &[u32],
-    values: &[f64],
-    link_powers: &[f64],
-    link_districts: &[u32],
-) -> Counts {
+fn with_path<R: rt::Clock>(sys: &R, clock: &mut Clock, route: Route, network: Network) -> Counts {
     let mut offsets = [0.0f64; 1025];
     let mut numbers = [0u32; 4100];
     let mut grades = [0.0f64; 49152];
@@ -80,103 +55,45 @@ fn with_path<R: std::rt::Clock>(
     let mut speeds = [0.0f64; 8192];
     let mut powers = [0.0f64; 3072];
     let mut districts = [0u32; 1024];
-    let mut laid = [Laid::default(); 32768];
+    let mut limits = [Laid::default(); 32768];
     let mut borders = [Border::default(); 2048];
     let mut heights = [Height::default(); 32768];
     let mut original = [0.0f64; 16384];
-    run(
-        sys,
-        to,
-        clock,
-        name,
-        text,
-        judged,
-        &mut offsets,
-        &mut numbers,
-        &mut grades,
-        &mut curves,
-        &mut speeds,
-        &mut powers,
-        &mut districts,
-        links,
-        lengths,
-        sets,
-        elevs,
-        headings,
-        limits,
-        codes,
-        values,
-        link_powers,
-        link_districts,
-        &mut laid,
-        &mut borders,
-        &mut heights,
-        &mut original,
-    )
-}
-
-// A run on a table whose links are cut to those of the route.
-fn with_links<R: std::rt::Clock>(
-    sys: &R,
-    to: To,
-    clock: Clock,
-    name: &[u8],
-    text: &[u8],
-    judged: Judged,
-    links: &mut [u32; 11275],
-    lengths: &mut [f64; 1025],
-    sets: &mut [u32; 49200],
-    elevs: &mut [f64; 32768],
-    headings: &mut [f64; 32768],
-    limits: &mut [f64; 24576],
-    codes: &mut [u32; 16384],
-    values: &mut [f64; 8192],
-    link_powers: &mut [f64; 3072],
-    link_districts: &mut [u32; 1024],
-) -> Counts {
-    fill_table(
-        text,
-        &mut *links,
-        &mut *lengths,
-        &mut *sets,
-        &mut *elevs,
-        &mut *headings,
-        &mut *limits,
-        &mut *codes,
-        &mut *values,
-        &mut *link_powers,
-        &mut *link_districts,
-    );
-    let n = last_link(judged.links);
-    with_path(
-        sys,
-        to,
-        clock,
-        name,
-        text,
-        judged,
-        cut(&*links, 11 * n + 11),
-        cut(&*lengths, n + 1),
-        cut(&*sets, 48 * n + 48),
-        &*elevs,
-        &*headings,
-        &*limits,
-        &*codes,
-        &*values,
-        &*link_powers,
-        &*link_districts,
-    )
+    let mut all = Run {
+        route,
+        train: train_of(route.text, route.judged.train_at),
+        network,
+        path: no_path(),
+        columns: PathColumnsMut {
+            offsets: &mut offsets,
+            numbers: &mut numbers,
+            grades: &mut grades,
+            curves: &mut curves,
+            speeds: &mut speeds,
+            powers: &mut powers,
+            districts: &mut districts,
+        },
+        joined: Joined {
+            limits: &mut limits,
+            borders: &mut borders,
+            heights: &mut heights,
+            counts: History::default(),
+        },
+        original: Original {
+            column: &mut original,
+            course: Course::NotFollowed,
+        },
+        straps: None,
+        counts: Counts::default(),
+        dropped: false,
+        warned: false,
+    };
+    run_lines(sys, clock, &mut all);
+    all.counts
 }
 
 // A run with columns for the link table.
-pub fn with_table<R: std::rt::Clock>(
-    sys: &R,
-    to: To,
-    clock: Clock,
-    name: &[u8],
-    text: &[u8],
-    judged: Judged,
-) -> Counts {
+pub fn with_table<R: rt::Clock>(sys: &R, clock: &mut Clock, route: Route) -> Counts {
     let mut links = [0u32; 11275];
     let mut lengths = [0.0f64; 1025];
     let mut sets = [0u32; 49200];
@@ -185,24 +102,20 @@ pub fn with_table<R: std::rt::Clock>(
     let mut limits = [0.0f64; 24576];
     let mut codes = [0u32; 16384];
     let mut values = [0.0f64; 8192];
-    let mut link_powers = [0.0f64; 3072];
-    let mut link_districts = [0u32; 1024];
-    with_links(
-        sys,
-        to,
-        clock,
-        name,
-        text,
-        judged,
-        &mut links,
-        &mut lengths,
-        &mut sets,
-        &mut elevs,
-        &mut headings,
-        &mut limits,
-        &mut codes,
-        &mut values,
-        &mut link_powers,
-        &mut link_districts,
-    )
+    let mut powers = [0.0f64; 3072];
+    let mut districts = [0u32; 1024];
+    let mut table = TableColumns {
+        links: &mut links,
+        lengths: &mut lengths,
+        sets: &mut sets,
+        elevs: &mut elevs,
+        headings: &mut headings,
+        limits: &mut limits,
+        codes: &mut codes,
+        values: &mut values,
+        powers: &mut powers,
+        districts: &mut districts,
+    };
+    fill_table(route.text, &mut table);
+    with_path(sys, clock, route, network(&table, route.judged.links))
 }
