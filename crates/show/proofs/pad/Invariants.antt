@@ -1,9 +1,0 @@
--- `pad`: one blank a turn.
-use Rattle.std.proofs.Common.{◌-◌}
-use Rattle.show.proofs.pad.Given as goal
-
-abbrev pub invariant-loop-i : goal.invariant-loop-i
-invariant-loop-i l = Unit {0}
-
-abbrev pub decreases-loop-i : goal.decreases-loop-i
-decreases-loop-i l = l.width - l.i

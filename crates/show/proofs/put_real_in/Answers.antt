@@ -1,8 +1,0 @@
--- `put_real_in`: what is cut lies between the two ends that the code tests.
-use Rattle.std.proofs.Common.{T, sym, subst}
-use lib.Ieee.{of_bits, neg}
-use Rattle.show.proofs.put_real_in.Goals as goal
-
-pub truncating_f64_to_u64-requires : goal.truncating_f64_to_u64-requires
-unfolding of_bits neg
-truncating_f64_to_u64-requires c = record { lower_bound = subst T (sym c.if-m.true) tt; upper_bound = subst T (sym c.if-m-2.true) tt }
