@@ -1,4 +1,5 @@
 // A run of the original, followed in a column of its speed points; a count of 0 says that it is not followed, or has stopped.
+// Any column and count: each function asks the count against the column, and makes the struct of points itself.
 ghost use Rattle.std.specs.Prelude.{◌≡◌, cond, [], ◌∷◌, leb, length};
 ghost use Rattle.ieee.specs.Number.{+0};
 ghost use Rattle.speed.specs.Points.{point};

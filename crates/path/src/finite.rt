@@ -9,7 +9,7 @@ use crate::path_tpc::PathTpc;
 use link::train_params::TrainParams;
 use lookup::path_res_coeff::coeffs_finite;
 
-// Whether every entry of n records, w entries each, is finite, as far as the column has them.
+// Whether every entry of n records, w entries each, is finite, as far as the column has them. Any count: question 2 has not judged it yet.
 fn records_finite(col: &[f64], n: usize, w: usize) -> bool
     requires w_nonzero { 0 < w }
     requires w_bound { w < 4 }

@@ -200,7 +200,7 @@ fn counts_lead(
     counts_add_up(p, g, k, w) & ok
 }
 
-// Whether the last of m records stands at +infinity.
+// Whether the last of m records stands at +infinity. No CoeffList, which has one record at least.
 fn closes(col: &[f64], m: usize) -> bool
     ensures { result ≡ spec.closes (coeffs m col.now) }
 {

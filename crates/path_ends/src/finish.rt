@@ -15,7 +15,7 @@ use path::questions::path_answer;
 use path::sound::within;
 use si::{Length, Ratio};
 
-// The record after the m of a column: at +infinity, coefficient 0, the last one's net value.
+// The record after the m of a column: at +infinity, coefficient 0, the last one's net value. One record more than a list of the m has.
 fn close(col: &mut [f64], m: usize)
     requires { 0 < m }
     ensures { col.new ≡ put_record triple col.old m (closing_after (record_at triple col.old (m - 1))) }

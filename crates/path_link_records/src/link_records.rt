@@ -93,7 +93,7 @@ pub fn link_records<'a>(
     Ok(&col[from..to])
 }
 
-// The grades of link k.
+// The grades of link k. While the part is held all seven columns are lent; `link_range` lends none.
 pub fn link_grades<'a>(p: PathTpc, k: usize, cols: &PathColumns<'a>) -> Result<&'a [f64], Refusal>
     ensures { spec.part_told result ≡ spec.link_grades_of k p (lent cols.now) }
 {

@@ -41,7 +41,7 @@ pub fn powers_finite(
     true
 }
 
-// Lays `count` power limits from `first` on behind the m of two columns.
+// Lays `count` power limits from `first` on behind the m of two columns; a struct of the two would serve this function and its one caller alone.
 pub fn lay_powers(
     powers: &mut [f64],
     districts: &mut [u32],

@@ -46,7 +46,7 @@ fn network<'a>(table: &'a TableColumns, links: usize) -> Network<'a> {
     }
 }
 
-// A run on a path with columns at the bounds of R12.
+// A run on a path with columns at the bounds of R12, in memory that is fixed (D84).
 fn with_path<R: rt::Clock>(sys: &R, clock: &mut Clock, route: Route, network: Network) -> Counts {
     let mut offsets = [0.0f64; 1025];
     let mut numbers = [0u32; 4100];

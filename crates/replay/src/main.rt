@@ -82,6 +82,7 @@ const BYTES: u64 = 400_000;
 fn replay(rt: &impl Print, alloc: Global, words: &[u64], path: &mut Path) -> io::Result<()> {
     let mut s = Session::new(alloc, Column(words))?;
     let mut rest = words;
+    // No `for`: a call is as long as its count of words says.
     while let [code, behind @ ..] = rest {
         let args = Column(behind);
         if let Some(call) = call::of_code(*code) {

@@ -21,7 +21,7 @@ impl SpeedPoints<'_> {
     }
 }
 
-// Drops the points before x, the new beginning, and moves the first that stays to x; the count afterwards.
+// Drops the points before x, the new beginning, and moves the first that stays to x; the count afterwards. It makes the struct of the lent column.
 pub fn clear_points(col: &mut [f64], n: usize, x: Length) -> usize
     requires n_nonzero { 0 < n }
     requires n_in_bounds { 2 * n ≤ length col.old }

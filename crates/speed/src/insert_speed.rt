@@ -196,7 +196,7 @@ impl SpeedColumn<'_> {
     }
 }
 
-// Lays the limit on the n points of a column; the count afterwards.
+// Lays the limit on the n points of a lent column, of which the struct is made here; the count afterwards.
 pub fn insert_speed(col: &mut [f64], n: usize, l: SpeedLimit) -> usize
     requires n_nonzero { 0 < n }
     requires n_in_bounds { 2 * (n + 2) ≤ length col.old }
