@@ -28,7 +28,7 @@ enum Status {
 }
 
 impl Status {
-    fn number(self) -> u32 {
+    fn code(self) -> u32 {
         match self {
             Status::Done => 0,
             Status::Refused => 1,
@@ -207,5 +207,5 @@ fn main(rt: HostRuntime) {
     };
     asked.arguments(&rt);
     let status = asked.ended();
-    write!(asked.to.err, "plan: exit status {}\n", status.number());
+    write!(asked.to.err, "plan: exit status {}\n", status.code());
 }

@@ -67,13 +67,13 @@ fn number_of(word: u64) -> u32 {
 pub struct Column<'a>(pub &'a [u64]);
 
 impl<'a> Column<'a> {
-    fn count(self) -> usize {
+    fn length(self) -> usize {
         self.0.first().map_or(0, |n| *n as usize)
     }
 
     // How many of its entries are read.
     pub fn held(self) -> usize {
-        self.count().min(ENTRIES)
+        self.length().min(ENTRIES)
     }
 
     // What is behind its length, up to the words' end.
@@ -91,7 +91,7 @@ impl<'a> Column<'a> {
         ensures { length result.now ≤ length self.entry.0.now }
     {
         let entries = self.entries();
-        let n = self.count();
+        let n = self.length();
         if n <= entries.len() {
             &entries[n..]
         } else {
@@ -101,7 +101,7 @@ impl<'a> Column<'a> {
 
     // Entry i; 0 where there is none.
     pub fn entry(self, i: usize) -> u64 {
-        if self.count() <= i {
+        if self.length() <= i {
             return 0;
         }
         self.entries().get(i).copied().unwrap_or(0)

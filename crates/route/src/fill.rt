@@ -27,7 +27,7 @@ pub struct TableColumns<'a> {
 }
 
 // The link and the set place that a line belongs to, and how many records of each pool stand before it.
-#[derive(Clone, Copy)]
+#[derive(Clone, Copy, Default)]
 pub struct Here {
     pub link: usize,
     pub place: usize,
@@ -36,26 +36,6 @@ pub struct Here {
     pub powers: u32,
     pub conditions: u32,
     pub limits: u32,
-}
-
-fn nowhere() -> Here {
-    Here {
-        link: 0,
-        place: 0,
-        elevs: 0,
-        headings: 0,
-        powers: 0,
-        conditions: 0,
-        limits: 0,
-    }
-}
-
-// One more; the largest stays.
-fn more(n: u32) -> u32 {
-    if n < 4294967295 {
-        return n + 1;
-    }
-    n
 }
 
 // The first entry of link i among the link numbers; a place past every column for a number that no table has.
@@ -82,7 +62,7 @@ fn set_entry(i: usize, p: usize) -> usize
 
 // One more in entry k.
 fn bump(col: &mut [u32], k: usize) {
-    let n = more(column::get(&*col, k));
+    let n = column::get(&*col, k).saturating_add(1);
     column::set(&mut *col, k, n);
 }
 
@@ -194,18 +174,18 @@ fn leave(line: TableLine, h: Here) -> Here {
     let mut r = h;
     match line {
         TableLine::Train | TableLine::Link | TableLine::Set => {}
-        TableLine::Elev => r.elevs = more(h.elevs),
-        TableLine::Heading => r.headings = more(h.headings),
-        TableLine::Power => r.powers = more(h.powers),
-        TableLine::When => r.conditions = more(h.conditions),
-        TableLine::Limit => r.limits = more(h.limits),
+        TableLine::Elev => r.elevs = h.elevs.saturating_add(1),
+        TableLine::Heading => r.headings = h.headings.saturating_add(1),
+        TableLine::Power => r.powers = h.powers.saturating_add(1),
+        TableLine::When => r.conditions = h.conditions.saturating_add(1),
+        TableLine::Limit => r.limits = h.limits.saturating_add(1),
     }
     r
 }
 
 // The link table of a route, into columns that are zero.
 pub fn fill_table(text: &[u8], table: &mut TableColumns) {
-    let mut h = nowhere();
+    let mut h = Here::default();
     for at in lines(text) {
         if let Kind::Table(line) = kind_of(text, at) {
             h = arrive(text, at, line, h);

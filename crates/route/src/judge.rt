@@ -46,7 +46,7 @@ pub struct LineFault {
 }
 
 // What the lines so far had: where the train's line is, how many records of each kind, which set places the last link has.
-#[derive(Clone, Copy)]
+#[derive(Clone, Copy, Default)]
 struct Seen {
     train_at: Option<usize>,
     links: usize,
@@ -57,20 +57,6 @@ struct Seen {
     limits: usize,
     places: u32,
     calls: usize,
-}
-
-fn nothing_seen() -> Seen {
-    Seen {
-        train_at: None,
-        links: 0,
-        elevs: 0,
-        headings: 0,
-        powers: 0,
-        conditions: 0,
-        limits: 0,
-        places: 0,
-        calls: 0,
-    }
 }
 
 // A route whose lines can all be read: where its train's line is, and how many links and calls it has.
@@ -272,7 +258,7 @@ fn line_seen(text: &[u8], at: usize, s: Seen) -> Result<Seen, Fault> {
 
 // All lines, up to the first that cannot be read; a route without a train is refused at its end.
 pub fn judge(text: &[u8]) -> Result<Judged, LineFault> {
-    let mut seen = nothing_seen();
+    let mut seen = Seen::default();
     let mut line: usize = 0;
     for at in lines(text) {
         line = line.saturating_add(1);

@@ -3,6 +3,8 @@ ghost use Rattle.std.specs.Prelude.{◌≡◌, ◌<◌, length, drop, ◌-◌, p
 ghost use Rattle.std.specs.Iterator.{at_most};
 ghost use Rattle.route.specs.Text as spec;
 
+// A line is given by a text and the place where it begins, since the train's line is kept so; a line alone begins at 0. A field is given by its places
+// as well: the next one is looked for from its end on.
 // Where a field begins and ends; at one place where there is none.
 #[derive(Clone, Copy)]
 pub struct Span {
@@ -10,6 +12,7 @@ pub struct Span {
     pub to: usize,
 }
 
+// Whether a byte is a blank.
 #[tactic(auto, unfolding(crate::specs::Text::is_blank))]
 fn is_blank(b: u8) -> bool
     ensures { result ≡ spec.is_blank b }
@@ -40,6 +43,7 @@ fn rest(text: &[u8], at: usize) -> &[u8]
     text.get(at..).unwrap_or(&[])
 }
 
+// Three searches that differ in their test: one over a closure would have to say in its contract what the closure answers, and be no plainer.
 // The first place without a blank.
 fn first_unblank(text: &[u8]) -> Option<usize>
     ensures { result ≡ position (λ b. not (spec.is_blank b)) text.now }

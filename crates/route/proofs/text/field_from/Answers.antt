@@ -1,6 +1,6 @@
 -- `field_from`: both ends by std's search.
-use Rattle.std.proofs.Common.{◌≡◌, ◌+◌}
-use Rattle.route.specs.Text.{is_blank, in_field, past, field_from}
+use Rattle.std.proofs.Common.{◌+◌}
+use Rattle.route.specs.Text.{is_blank, in_field, field_from}
 use Rattle.route.proofs.Places.{past-found}
 use Rattle.route.proofs.text.field_from.Goals as goal
 
