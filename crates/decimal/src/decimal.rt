@@ -4,7 +4,7 @@ ghost use Rattle.decimal.specs.Known.{Small};
 ghost use Rattle.decimal.specs.Decimal as spec;
 
 // What the bytes read so far make: their digits as one whole number, the power of ten that it is to be divided by, whether a point and whether a digit
-// was among them.
+// was among them: what was read, not whether it is good.
 #[derive(Clone, Copy)]
 pub struct Digits {
     pub whole: u64,
@@ -45,7 +45,7 @@ impl Digits {
         None
     }
 
-    // The number that they make. A cast by `as` is not defined above 2 ^ 53, where the larger powers of ten lie.
+    // The number that they make, below 0 where a minus stood before them. A cast by `as` is not defined above 2 ^ 53, where the larger powers of ten lie.
     fn value(self, negative: bool) -> Option<f64>
         requires { Small self }
         ensures { result ≡ spec.value_of negative self }

@@ -25,7 +25,7 @@ impl<'a> Model for CoeffList<'a> {
     ghost invariant = { λ l. (0 < l.count) × (3 * l.count ≤ length l.col.now) };
 }
 
-// Question 2 of a list searched alone: it is not empty, and the column holds its records.
+// Question 2 of a list searched alone, any column and count: it is not empty, and the column holds its records.
 pub fn list_sound(col: &[f64], n: usize) -> bool
     ensures { result ≡ list_sound n col.now }
 {

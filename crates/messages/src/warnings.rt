@@ -34,7 +34,7 @@ struct Lines {
     count: usize,
 }
 
-// The code of a condition on axles.
+// The code of a condition on axles, a number as the link table that C lends has it.
 const AXLES: u32 = 5;
 
 // The lines of each sort that there are.

@@ -1,4 +1,4 @@
-// The path's record: how many records its columns hold, and whether it is finished.
+// The path's record: how many records its columns hold, and whether it is finished. A value apart from the columns, since C passes the two apart.
 ghost use Rattle.std.specs.Prelude.{◌≡◌};
 ghost use Rattle.path.specs.Answers as spec;
 

@@ -101,7 +101,7 @@ fn extend_answer(
     sums_answer(p, train.length, train, list, cols, network)
 }
 
-// The limits of `count` link points from `first` on, laid on the n points of a column; their count afterwards.
+// The limits of `count` link points from `first` on, laid on the n points of a lent column, of which the struct is made here; their count afterwards.
 fn join_limits(
     speeds: &mut [f64],
     n: usize,

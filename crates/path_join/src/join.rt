@@ -119,7 +119,8 @@ pub fn join_points(
     }
 }
 
-// The grades, or the curves, of the listed links behind the m records of a column; their count afterwards.
+// The grades, or the curves, of the listed links behind the m records of a lent column, of which the struct is made here.
+// Their count afterwards.
 pub fn join_records(
     col: &mut [f64],
     m: usize,

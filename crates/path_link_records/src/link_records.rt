@@ -20,7 +20,7 @@ pub struct Range {
     pub len: usize,
 }
 
-// An answer with the range of a link's records; nothing from 0 for a refusal.
+// An answer with the range of a link's records, as C reads it; nothing from 0 for a refusal.
 #[repr(C)]
 #[derive(Clone, Copy)]
 pub struct RangeAnswer {

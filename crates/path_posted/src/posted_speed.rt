@@ -11,7 +11,7 @@ use path::questions::path_answer;
 use si::{Length, Velocity};
 use speed::speed_point::SpeedPoints;
 
-// An answer with a speed; 0 for a refusal.
+// An answer with a speed, as C reads it; 0 for a refusal.
 #[repr(C)]
 #[derive(Clone, Copy)]
 pub struct PostedAnswer {

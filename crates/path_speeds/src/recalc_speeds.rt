@@ -64,6 +64,7 @@ fn recalc_answer(
 }
 
 // One speed point, at the path's beginning, and then the limits of the first `count` link points, for a train of the length `own`.
+// It makes the struct of the lent column.
 fn lay_anew(
     speeds: &mut [f64],
     offsets: &[f64],

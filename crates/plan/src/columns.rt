@@ -92,7 +92,7 @@ fn with_path<R: rt::Clock>(sys: &R, clock: &mut Clock, route: Route, network: Ne
     all.counts
 }
 
-// A run with columns for the link table.
+// A run with columns for the link table, in memory that is fixed (D84).
 pub fn with_table<R: rt::Clock>(sys: &R, clock: &mut Clock, route: Route) -> Counts {
     let mut links = [0u32; 11275];
     let mut lengths = [0.0f64; 1025];

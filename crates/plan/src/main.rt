@@ -81,7 +81,7 @@ fn plan_text<R: rt::Clock>(sys: &R, a: Asked, name: &[u8], text: &[u8]) -> Statu
     }
 }
 
-// The text of an open file; one that fills its room may be longer.
+// The text of an open file, in memory that is fixed (D84); one that fills its room may be longer.
 fn plan_open<R: rt::Clock, F: Read>(sys: &R, a: Asked, file: &mut F, name: &[u8]) -> Status {
     let mut text = [0u8; 400000];
     let wrong = match files::read_full(file, &mut text) {

@@ -93,7 +93,8 @@ fn replay(rt: &impl Print, alloc: Global, words: &[u64], path: &mut Path) -> io:
     Ok(())
 }
 
-// The calls on a path with room for 48 link points, 160 grades, curves and speed points, and 64 power limits.
+// The calls on a path with room for 48 link points, 160 grades, curves and speed points, and 64 power limits:
+// the bounds of the run that is stored.
 fn on_path(rt: &impl Print, alloc: Global, words: &[u64]) -> io::Result<()> {
     let mut offsets = [0.0f64; 48];
     let mut numbers = [0u32; 192];

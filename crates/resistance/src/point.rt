@@ -25,7 +25,7 @@ pub struct PointForce {
     pub res: Force,
 }
 
-// An answer with the record of a point.
+// An answer with the record of a point, as C reads it.
 #[repr(C)]
 #[derive(Clone, Copy)]
 pub struct PointAnswer {
@@ -33,7 +33,7 @@ pub struct PointAnswer {
     pub point: Point,
 }
 
-// An answer with the record of a point and a force.
+// An answer with the record of a point and a force, as C reads it.
 #[repr(C)]
 #[derive(Clone, Copy)]
 pub struct PointRes {

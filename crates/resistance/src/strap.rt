@@ -32,7 +32,7 @@ pub struct Ends {
     pub one: bool,
 }
 
-// An answer with the record of a strap.
+// An answer with the record of a strap, as C reads it.
 #[repr(C)]
 #[derive(Clone, Copy)]
 pub struct StrapAnswer {
@@ -40,7 +40,7 @@ pub struct StrapAnswer {
     pub strap: Strap,
 }
 
-// An answer with the record of a strap and a force.
+// An answer with the record of a strap and a force, as C reads it.
 #[repr(C)]
 #[derive(Clone, Copy)]
 pub struct StrapRes {

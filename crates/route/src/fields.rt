@@ -91,7 +91,7 @@ pub fn place_of(w: &[u8]) -> Option<usize>
     Some(type_number(train_type) + 1)
 }
 
-// 1 for a set whose limits end at their end, 0 for one with a tail.
+// 1 for a set whose limits end at their end, 0 for one with a tail. A number, as the link table that C lends has it; so are the next two.
 pub fn head_code(w: &[u8]) -> Option<u32>
     ensures { result ≡ codes.code_of codes.tails w.now }
 {

@@ -83,7 +83,7 @@ fn s_row(
     Ok(m)
 }
 
-// The one point (0,30).
+// The one point (0,30), in a column of the bound that the rows need.
 fn one_point() -> [f64; 16] {
     let mut a = [0.0; 16];
     a[1] = 30.0;

@@ -10,7 +10,7 @@ use answer::{Answer, Refusal};
 use path::columns::PathColumns;
 use path::path_tpc::PathTpc;
 
-// A position, and the answer of the call that handed it back.
+// A position, and the answer of the call that handed it back, as C reads them.
 #[repr(C)]
 #[derive(Clone, Copy)]
 pub struct StateAnswer {
