@@ -1,27 +1,25 @@
 // Answers as they are printed.
-use crate::fields::Number;
+use crate::columns::Number;
 use crate::paths::Trimmed;
 use crate::tables::Judged;
-use answer::Answer;
-use path_posted::posted_speed::PostedAnswer;
-use resistance::listed::{CoeffAnswer, NetAnswer, Searched};
-use resistance::point::{PointAnswer, PointRes};
-use resistance::strap::{StrapAnswer, StrapRes};
+use answer::Refusal;
+use resistance::point::{Point, PointForce};
+use resistance::strap::{Strap, StrapForce};
 use show::Whole;
 use std::fmt;
-use train::set_link_and_offset::StateAnswer;
+use train::train_state::TrainState;
 
 // Done, or the number of the refusal, and its place where it is not 0.
 #[derive(Clone, Copy)]
-pub struct Told(pub Answer);
+pub struct Told(pub Option<Refusal>);
 
 impl fmt::Display for Told {
     fn fmt<W: fmt::Write>(&self, f: &mut fmt::Formatter<W>) -> fmt::Result {
-        match self.0.number {
-            0 => write!(f, " done")?,
-            n => write!(f, " refused with {n}")?,
-        }
-        match self.0.place {
+        let Some(e) = self.0 else {
+            return write!(f, " done");
+        };
+        write!(f, " refused with {}", e.question.number())?;
+        match e.place {
             0 => Ok(()),
             place => write!(f, " at {place}"),
         }
@@ -41,10 +39,10 @@ impl<T: Number> fmt::Display for Entries<'_, T> {
     }
 }
 
-// A call's answer with the indices that go with it and a number, which is printed in thousandths.
-#[derive(Clone, Copy)]
+// The refusal of a call, if it is refused, the indices that go with the answer, and a number, which is printed in thousandths.
+#[derive(Clone, Copy, Default)]
 pub struct Reply {
-    pub answer: Answer,
+    pub refusal: Option<Refusal>,
     pub front: Option<usize>,
     pub back: Option<usize>,
     pub value: Option<f64>,
@@ -52,7 +50,7 @@ pub struct Reply {
 
 impl fmt::Display for Reply {
     fn fmt<W: fmt::Write>(&self, f: &mut fmt::Formatter<W>) -> fmt::Result {
-        write!(f, "{}", Told(self.answer))?;
+        write!(f, "{}", Told(self.refusal))?;
         if let Some(i) = self.front {
             write!(f, " {i}")?;
         }
@@ -66,17 +64,15 @@ impl fmt::Display for Reply {
     }
 }
 
-// An answer with nothing beside it.
-fn alone(answer: Answer) -> Reply {
-    Reply {
-        answer,
-        front: None,
-        back: None,
-        value: None,
-    }
-}
-
 impl Reply {
+    // Done or refused, with nothing beside it.
+    fn of<T: Copy>(r: Result<T, Refusal>) -> Reply {
+        Reply {
+            refusal: r.err(),
+            ..Reply::default()
+        }
+    }
+
     fn with_value(mut self, x: f64) -> Reply {
         self.value = Some(x);
         self
@@ -93,67 +89,51 @@ impl Reply {
     }
 }
 
-impl From<Searched> for Reply {
-    fn from(r: Searched) -> Reply {
-        alone(r.answer).with_front(r.idx)
+// A refused call answers with what it was given; an index found and a number are 0.
+impl From<Result<usize, Refusal>> for Reply {
+    fn from(r: Result<usize, Refusal>) -> Reply {
+        Reply::of(r).with_front(r.unwrap_or(0))
     }
 }
 
-impl From<CoeffAnswer> for Reply {
-    fn from(r: CoeffAnswer) -> Reply {
-        alone(r.answer).with_value(r.res_coeff.0)
+impl From<Result<f64, Refusal>> for Reply {
+    fn from(r: Result<f64, Refusal>) -> Reply {
+        Reply::of(r).with_value(r.unwrap_or(0.0))
     }
 }
 
-impl From<NetAnswer> for Reply {
-    fn from(r: NetAnswer) -> Reply {
-        alone(r.answer).with_value(r.res_net.0)
+impl Reply {
+    pub fn point(before: Point, r: Result<Point, Refusal>) -> Reply {
+        Reply::of(r).with_front(r.unwrap_or(before).path_tpc_idx_front())
     }
-}
 
-impl From<PointAnswer> for Reply {
-    fn from(r: PointAnswer) -> Reply {
-        alone(r.answer).with_front(r.point.path_tpc_idx_front())
+    pub fn strap(before: Strap, r: Result<Strap, Refusal>) -> Reply {
+        let t = r.unwrap_or(before);
+        Reply::of(r)
+            .with_front(t.path_tpc_idx_front())
+            .with_back(t.idx_back)
     }
-}
 
-impl From<PointRes> for Reply {
-    fn from(r: PointRes) -> Reply {
-        alone(r.answer)
-            .with_front(r.point.path_tpc_idx_front())
-            .with_value(r.res.0)
+    pub fn point_force(before: Point, r: Result<PointForce, Refusal>) -> Reply {
+        Reply::point(before, r.map(|there| there.point)).with_value(r.map_or(
+            0.0,
+            |there| there.res.0,
+        ))
     }
-}
 
-impl From<StrapAnswer> for Reply {
-    fn from(r: StrapAnswer) -> Reply {
-        alone(r.answer)
-            .with_front(r.strap.path_tpc_idx_front())
-            .with_back(r.strap.idx_back)
+    pub fn strap_force(before: Strap, r: Result<StrapForce, Refusal>) -> Reply {
+        Reply::strap(before, r.map(|there| there.strap)).with_value(r.map_or(
+            0.0,
+            |there| there.res.0,
+        ))
     }
-}
 
-impl From<StrapRes> for Reply {
-    fn from(r: StrapRes) -> Reply {
-        alone(r.answer)
-            .with_front(r.strap.path_tpc_idx_front())
-            .with_back(r.strap.idx_back)
-            .with_value(r.res.0)
-    }
-}
-
-impl From<StateAnswer> for Reply {
-    fn from(r: StateAnswer) -> Reply {
-        alone(r.answer)
-            .with_front(r.state.link_idx_front as usize)
-            .with_back(r.state.link_idx_back as usize)
-            .with_value(r.state.offset_in_link.0)
-    }
-}
-
-impl From<PostedAnswer> for Reply {
-    fn from(r: PostedAnswer) -> Reply {
-        alone(r.answer).with_value(r.speed.0)
+    pub fn state(before: TrainState, r: Result<TrainState, Refusal>) -> Reply {
+        let s = r.unwrap_or(before);
+        Reply::of(r)
+            .with_front(s.link_idx_front as usize)
+            .with_back(s.link_idx_back as usize)
+            .with_value(s.offset_in_link.0)
     }
 }
 

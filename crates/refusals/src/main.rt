@@ -12,7 +12,7 @@ mod tables; // questions 4 to 7 of a link table
 
 use answers::Shown;
 use columns::Columns;
-use fields::{Fault, words};
+use fields::{BLANKS, Fault, words};
 use std::alloc::{AllocError, Global};
 use std::io;
 
@@ -48,15 +48,18 @@ fn run_call(alloc: Global, columns: &Columns, call: &str, args: &[&str]) -> Resu
     }
 }
 
+// What stands before a colon and behind it, where it is a word of its own.
+fn parts_at(line: &str, colon: usize) -> Option<(&str, &str)> {
+    let (call, rest) = line.split_at_checked(colon)?;
+    let name = rest.strip_prefix(':')?;
+    let ends = name.is_empty() || name.starts_with('#') || name.starts_with(BLANKS);
+    (ends && call.ends_with(BLANKS)).then_some((call, name))
+}
+
 // What stands before the first colon that is a word of its own, and behind it.
 fn call_and_name(line: &str) -> Option<(&str, &str)> {
-    match line.split_once(" : ") {
-        Some(parts) => Some(parts),
-        None => match line.strip_suffix(" :") {
-            Some(call) => Some((call, &line[line.len()..])),
-            None => None,
-        },
-    }
+    line.match_indices(':')
+        .find_map(|(colon, _)| parts_at(line, colon))
 }
 
 // A row, CALL ARGUMENT .. : NAME. The name goes to the line's end.
@@ -69,7 +72,7 @@ fn row<'a>(alloc: Global, columns: &Columns, line: &'a str) -> Result<Line<'a>, 
     match args.as_slice() {
         [] => Err(Fault::Unreadable),
         [call, args @ ..] => Ok(Line::Row(
-            name.trim_start(),
+            name.trim_start_matches(BLANKS),
             run_call(alloc, columns, call, args)?,
         )),
     }
@@ -92,9 +95,9 @@ fn read<'a>(alloc: Global, columns: &mut Columns, lines: &[&'a str]) -> Result<L
     }
 }
 
-// Every line of a text.
+// Every line of a text; of CRLF the CR stays, as a blank or at the end of a name.
 fn lines_of(alloc: Global, text: &str) -> Result<Vec<&str>, AllocError> {
-    text.lines().map(Ok).try_collect(alloc)
+    text.split_terminator('\n').map(Ok).try_collect(alloc)
 }
 
 // One line after another, and how many rows there were.

@@ -1,15 +1,16 @@
 // Positions, posted speeds and lists of trims on a path: its record is the column `counts`, its seven columns are named as the calls name them.
 use crate::answers::{Entries, Reply, Told};
-use crate::columns::Columns;
+use crate::columns::{Columns, Number};
 use crate::fields::{Fault, length, numbers, to_number};
+use answer::Refusal;
 use path::columns::{PathColumns, PathColumnsMut};
 use path::path_tpc::PathTpc;
 use path_clear::clear::ClearAnswer;
 use path_clear::clear_each::clear_each;
-use path_posted::posted_speed::{PostedAnswer, posted_speed};
+use path_posted::posted_speed::posted_speed;
 use std::alloc::{AllocError, Global};
 use std::fmt;
-use train::set_link_and_offset::{StateAnswer, with_link_and_offset};
+use train::set_link_and_offset::with_link_and_offset;
 
 // A path: its record and its seven columns.
 #[derive(Drop)]
@@ -24,17 +25,18 @@ pub struct Path {
     districts: Vec<u32>,
 }
 
-fn reals(alloc: Global, columns: &Columns, name: &str) -> Result<Vec<f64>, AllocError> {
-    Vec::from_slice(alloc, columns.reals(name).unwrap_or(&[]))
-}
-
-fn wholes(alloc: Global, columns: &Columns, name: &str) -> Result<Vec<u32>, AllocError> {
-    Vec::from_slice(alloc, columns.wholes(name).unwrap_or(&[]))
+// The column of a name; none where the text sets none.
+fn column_of<T: Number>(
+    alloc: Global,
+    columns: &Columns,
+    name: &str,
+) -> Result<Vec<T>, AllocError> {
+    Vec::from_slice(alloc, columns.column::<T>(name).unwrap_or(&[]))
 }
 
 // The path's record.
 fn record(columns: &Columns) -> PathTpc {
-    let counts = columns.wholes("counts").unwrap_or(&[]);
+    let counts = columns.column::<u32>("counts").unwrap_or(&[]);
     PathTpc {
         link_count: column::get(counts, 0) as usize,
         grade_count: column::get(counts, 1) as usize,
@@ -50,13 +52,13 @@ impl Path {
     fn read(alloc: Global, columns: &Columns) -> Result<Path, AllocError> {
         Ok(Path {
             record: record(columns),
-            offsets: reals(alloc, columns, "offsets")?,
-            numbers: wholes(alloc, columns, "numbers")?,
-            grades: reals(alloc, columns, "grades")?,
-            curves: reals(alloc, columns, "curves")?,
-            speeds: reals(alloc, columns, "speeds")?,
-            powers: reals(alloc, columns, "powers")?,
-            districts: wholes(alloc, columns, "districts")?,
+            offsets: column_of(alloc, columns, "offsets")?,
+            numbers: column_of(alloc, columns, "numbers")?,
+            grades: column_of(alloc, columns, "grades")?,
+            curves: column_of(alloc, columns, "curves")?,
+            speeds: column_of(alloc, columns, "speeds")?,
+            powers: column_of(alloc, columns, "powers")?,
+            districts: column_of(alloc, columns, "districts")?,
         })
     }
 
@@ -98,7 +100,7 @@ pub fn position(alloc: Global, columns: &Columns, args: &[&str]) -> Result<Reply
     s.offset_in_link = length(in_link)?;
     let p = Path::read(alloc, columns)?;
     let found = with_link_and_offset(s, p.record, &p.reading());
-    Ok(Reply::from(StateAnswer::told(s, found)))
+    Ok(Reply::state(s, found))
 }
 
 // posted OFFSET: the speed posted there.
@@ -109,13 +111,14 @@ pub fn posted(alloc: Global, columns: &Columns, args: &[&str]) -> Result<Reply, 
     let x = length(offset)?;
     let p = Path::read(alloc, columns)?;
     let speed = posted_speed(p.record, x, &p.reading());
-    Ok(Reply::from(PostedAnswer::from(speed)))
+    Ok(Reply::from(speed.map(|v| v.0)))
 }
 
 // The answer to a list of trims, and the columns that it leaves.
 #[derive(Drop)]
 pub struct Trimmed {
-    answer: ClearAnswer,
+    refusal: Option<Refusal>,
+    counts: Counts,
     left: Path,
 }
 
@@ -125,8 +128,11 @@ pub fn trims(alloc: Global, columns: &Columns, args: &[&str]) -> Result<Trimmed,
     let mut p = Path::read(alloc, columns)?;
     let before = p.record;
     let trimmed = clear_each(before, &xs, &mut p.lent());
-    let answer = ClearAnswer::told(before, trimmed);
-    Ok(Trimmed { answer, left: p })
+    Ok(Trimmed {
+        refusal: trimmed.err(),
+        counts: Counts(ClearAnswer::told(before, trimmed)),
+        left: p,
+    })
 }
 
 // The counts of the path's record and those of the links that went.
@@ -174,12 +180,7 @@ impl fmt::Display for Path {
 
 impl fmt::Display for Trimmed {
     fn fmt<W: fmt::Write>(&self, f: &mut fmt::Formatter<W>) -> fmt::Result {
-        writeln!(
-            f,
-            "{}{}",
-            Told(self.answer.outcome.answer),
-            Counts(self.answer)
-        )?;
+        writeln!(f, "{}{}", Told(self.refusal), self.counts)?;
         write!(f, "{}", self.left)
     }
 }

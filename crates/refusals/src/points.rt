@@ -2,8 +2,7 @@
 use crate::answers::Reply;
 use crate::columns::Columns;
 use crate::fields::{Fault, count, dir, state};
-use resistance::listed::{CoeffAnswer, NetAnswer};
-use resistance::point::{Point, PointAnswer, PointRes};
+use resistance::point::Point;
 
 // The point INDEX.
 fn point_at(w: &str) -> Result<Point, Fault> {
@@ -20,28 +19,28 @@ pub fn answer(columns: &Columns, call: &str, args: &[&str]) -> Result<Reply, Fau
         ("Point::new", [list, records, train, front, back]) => {
             let (col, n) = columns.list(list, records)?;
             let made = Point::new(col, n, state(columns, train, front, back)?);
-            Ok(Reply::from(PointAnswer::told(Point { idx: 0 }, made)))
+            Ok(Reply::point(Point { idx: 0 }, made))
         }
         ("Point::calc_res", [list, records, train, front, back, idx, to]) => {
             let (col, n) = columns.list(list, records)?;
             let s = state(columns, train, front, back)?;
             let p = point_at(idx)?;
-            Ok(Reply::from(PointRes::told(p, p.calc_res(col, n, s, dir(to)?))))
+            Ok(Reply::point_force(p, p.calc_res(col, n, s, dir(to)?)))
         }
         ("Point::res_coeff_front", [list, records, idx]) => {
             let (col, n) = columns.list(list, records)?;
             let r = point_at(idx)?.res_coeff_front(col, n);
-            Ok(Reply::from(CoeffAnswer::from(r)))
+            Ok(Reply::from(r.map(|x| x.0)))
         }
         ("Point::res_net_front", [list, records, train, front, back, idx]) => {
             let (col, n) = columns.list(list, records)?;
             let s = state(columns, train, front, back)?;
             let r = point_at(idx)?.res_net_front(col, n, s);
-            Ok(Reply::from(NetAnswer::from(r)))
+            Ok(Reply::from(r.map(|x| x.0)))
         }
         ("Point::fix_cache", [idx, sub]) => {
             let p = point_at(idx)?;
-            Ok(Reply::from(PointAnswer::told(p, p.fix_cache(count(sub)?))))
+            Ok(Reply::point(p, p.fix_cache(count(sub)?)))
         }
         _ => Err(Fault::Unreadable),
     }

@@ -2,7 +2,6 @@
 use crate::answers::Reply;
 use crate::columns::Columns;
 use crate::fields::{Fault, count, dir, length};
-use resistance::listed::Searched;
 
 // calc_idx LIST RECORDS OFFSET HINT DIRECTION
 pub fn calc_idx(columns: &Columns, args: &[&str]) -> Result<Reply, Fault> {
@@ -11,5 +10,5 @@ pub fn calc_idx(columns: &Columns, args: &[&str]) -> Result<Reply, Fault> {
     };
     let (col, n) = columns.list(list, records)?;
     let found = lookup::calc_idx::calc_idx(col, n, length(offset)?, count(hint)?, dir(to)?);
-    Ok(Reply::from(Searched::from(found)))
+    Ok(Reply::from(found))
 }

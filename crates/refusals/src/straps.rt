@@ -2,8 +2,7 @@
 use crate::answers::Reply;
 use crate::columns::Columns;
 use crate::fields::{Fault, count, dir, length, state};
-use resistance::listed::{CoeffAnswer, NetAnswer};
-use resistance::strap::{Strap, StrapAnswer, StrapRes};
+use resistance::strap::Strap;
 use resistance::walk::walk;
 use train::train_state::TrainState;
 
@@ -47,28 +46,28 @@ fn answer_at(at: At, call: &str, args: &[&str]) -> Result<Reply, Fault> {
                 idx_back: 0,
             };
             let made = Strap::new(at.col, at.n, at.state);
-            Ok(Reply::from(StrapAnswer::told(before, made)))
+            Ok(Reply::strap(before, made))
         }
         ("Strap::calc_res", [front, back, to]) => {
             let t = strap_at(front, back)?;
             let there = t.calc_res(at.col, at.n, at.state, dir(to)?);
-            Ok(Reply::from(StrapRes::told(t, there)))
+            Ok(Reply::strap_force(t, there))
         }
         ("walk", [front, back, to, step, positions]) => {
             let t = strap_at(front, back)?;
             let k = count(positions)?;
             let walked = walk(t, at.col, at.n, at.state, dir(to)?, length(step)?, k);
-            Ok(Reply::from(StrapRes::told(t, walked)))
+            Ok(Reply::strap_force(t, walked))
         }
         ("Strap::res_net_front", [front, back]) => {
             let t = strap_at(front, back)?;
             let r = t.res_net_front(at.col, at.n, at.state);
-            Ok(Reply::from(NetAnswer::from(r)))
+            Ok(Reply::from(r.map(|x| x.0)))
         }
         ("Strap::res_net_back", [front, back]) => {
             let t = strap_at(front, back)?;
             let r = t.res_net_back(at.col, at.n, at.state);
-            Ok(Reply::from(NetAnswer::from(r)))
+            Ok(Reply::from(r.map(|x| x.0)))
         }
         _ => Err(Fault::Unreadable),
     }
@@ -81,16 +80,16 @@ pub fn answer(columns: &Columns, call: &str, args: &[&str]) -> Result<Reply, Fau
         ("Strap::res_coeff_front", [list, records, front, back]) => {
             let (col, n) = columns.list(list, records)?;
             let r = strap_at(front, back)?.res_coeff_front(col, n);
-            Ok(Reply::from(CoeffAnswer::from(r)))
+            Ok(Reply::from(r.map(|x| x.0)))
         }
         ("Strap::res_coeff_back", [list, records, front, back]) => {
             let (col, n) = columns.list(list, records)?;
             let r = strap_at(front, back)?.res_coeff_back(col, n);
-            Ok(Reply::from(CoeffAnswer::from(r)))
+            Ok(Reply::from(r.map(|x| x.0)))
         }
         ("Strap::fix_cache", [front, back, sub]) => {
             let t = strap_at(front, back)?;
-            Ok(Reply::from(StrapAnswer::told(t, t.fix_cache(count(sub)?))))
+            Ok(Reply::strap(t, t.fix_cache(count(sub)?)))
         }
         (_, [list, records, train, front, back, args @ ..]) => answer_at(
             At::read(columns, &[*list, *records, *train, *front, *back])?,
