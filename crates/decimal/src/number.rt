@@ -4,7 +4,7 @@ ghost use Rattle.std.specs.Float.{binary64};
 ghost use Rattle.decimal.specs.Number as spec;
 
 use crate::decimal::read_decimal;
-use crate::digits::digits_number;
+use crate::digits::read_digits;
 
 // The f64 that bits are. `from_bits` is not defined at the bits of a NaN.
 fn of_bits(bits: u64) -> f64
@@ -22,7 +22,7 @@ fn of_hex(digits: &[u8]) -> Option<f64>
     ensures { result ≡ spec.of_hex digits.now }
 {
     if digits.len() == 16 {
-        return digits_number(digits, 16).map(of_bits);
+        return read_digits(digits, 16).map(of_bits);
     }
     None
 }

@@ -2,7 +2,7 @@
 ghost use Rattle.std.specs.Prelude.{◌≡◌};
 ghost use Rattle.decimal.specs.Number as spec;
 
-use crate::digits::digits_number;
+use crate::digits::read_digits;
 
 // The whole number that a text is.
 #[tactic(auto, unfolding(crate::specs::Number::read_whole))]
@@ -12,5 +12,5 @@ pub fn read_whole(text: &[u8]) -> Option<u32>
     if text.is_empty() | (10 < text.len()) {
         return None;
     }
-    u32::try_from(digits_number(text, 10)?).ok()
+    u32::try_from(read_digits(text, 10)?).ok()
 }

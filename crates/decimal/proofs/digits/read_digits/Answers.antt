@@ -1,11 +1,11 @@
--- `digits_number`: n is what the digits before the index write.
+-- `read_digits`: n is what the digits before the index write.
 use Rattle.std.proofs.Common.{ℕ, ◌+◌, ◌*◌, get_or, sym, ap, ◌∙◌, refl, lit≤, arith, mul-le-mul_right}
 use native.Mathlib.Nat.{pow-zero}
 use Rattle.std.specs.Option.{option_map}
 use Rattle.std.proofs.lemmas.List.{at_drop_all}
 use Rattle.decimal.specs.Digits.{all_digits, whole_from, number_from}
 use Rattle.decimal.proofs.Texts.{carried-next, carried-none, number-carried, digit-lt, one_more, few-digits}
-use Rattle.decimal.proofs.digits.digits_number.Goals as goal
+use Rattle.decimal.proofs.digits.read_digits.Goals as goal
 
 pub loop-b-init : goal.loop-b-init
 loop-b-init c = (rw pow-zero (lit≤ tt), refl)
@@ -28,12 +28,12 @@ loop-b-preserved c =
     let n = c.loop-b.n in
     let i = c.loop-b.b-index in
     let d = c.in_ok-n.field-0 in
-    (one_more base n i c.loop-b.invariant.0 d (digit-lt base (get_or text i 0) d e), carried-next (number-carried base) text i n c.loop-b-test.true (base * n + d) (ap (option_map (λ (v : ℕ). base * n + v)) e) ∙ c.loop-b.invariant.1)
+    (one_more base n i c.loop-b.invariant.0 d (digit-lt base (get_or text i 0) d e), carried-next (number-carried base c.requires.base_bound) text i n c.loop-b-test.true (base * n + d) (ap (option_map (λ (v : ℕ). base * n + v)) e) ∙ c.loop-b.invariant.1)
 
 pub returns-in_err-n : goal.returns-in_err-n
 returns-in_err-n c =
     let e = sym c.digit.ensures ∙ c.in_err-n.was in
-    rw c.from_residual.ensures (carried-none (number-carried c.args.base) _ _ _ c.loop-b-test.true (ap (option_map (λ (d : ℕ). c.args.base * c.loop-b.n + d)) e) ∙ c.loop-b.invariant.1)
+    rw c.from_residual.ensures (carried-none (number-carried c.args.base c.requires.base_bound) _ _ _ c.loop-b-test.true (ap (option_map (λ (d : ℕ). c.args.base * c.loop-b.n + d)) e) ∙ c.loop-b.invariant.1)
 
 pub returns : goal.returns
 unfolding all_digits whole_from
