@@ -13,6 +13,7 @@ use lib.Ieee.{Float}
 use Rattle.ieee.specs.Number.{+0}
 use Rattle.column.specs.declared.Two.{Two}
 use Rattle.column.specs.declared.Three.{Three}
+use Rattle.column.specs.declared.Four.{Four}
 use Rattle.column.specs.Entries.{zero_range}
 use Rattle.column.proofs.Filling.{range_inside}
 use Rattle.column.specs.Records.{Layout, record_at, put_record, two, three, four}
@@ -99,3 +100,10 @@ module _ (c : List ℕ) (i : ℕ) where
   pub four-entries : record_at four c i ≡ record { 0 = get_or c (4 * i) 0; 1 = get_or c (4 * i + 1) 0; 2 = get_or c (4 * i + 2) 0; 3 = get_or c (4 * i + 3) 0 }
   unfolding record_at
   four-entries = rw (first c (4 * i) 0, get_or-drop (4 * i) c 1 0, get_or-drop (4 * i) c 2 0, get_or-drop (4 * i) c 3 0)
+
+  pub four-put : (r : Four) → put_record four c i r ≡ set (set (set (set c (4 * i) r.0) (4 * i + 1) r.1) (4 * i + 2) r.2) (4 * i + 3) r.3
+  unfolding put_record
+  four-put r =
+      let e : 4 * i + 2 ≡ suc (suc (4 * i)) = omega arith in
+      let g : 4 * i + 3 ≡ suc (suc (suc (4 * i))) = omega arith in
+      rw (add-one (4 * i), e, g)

@@ -3,7 +3,7 @@ ghost use Rattle.std.specs.Prelude.{◌≡◌, ◌+◌, ◌≤◌, length, slice
 ghost use Rattle.std.proofs.Common.{rules};
 ghost use Rattle.ieee.specs.Number.{+0, all_finite};
 ghost use Rattle.ieee.proofs.Same.{zero-literal};
-ghost use Rattle.column.specs.Entries.{zero_from, move_front, open_gap, close_gap};
+ghost use Rattle.column.specs.Entries.{moved, zero_from, move_front, open_gap, close_gap};
 
 // What a column holds.
 pub trait Entry: Copy {
@@ -68,13 +68,58 @@ pub fn zero_from<T: Entry>(col: &mut [T], from: usize)
     }
 }
 
+// Moves n entries, at most 256, from j on to i. All are read before the first is stored, so the places may overlap; the two
+// copies compile to one memmove.
+fn move_block<T: Entry>(col: &mut [T], i: usize, j: usize, n: usize)
+    requires few { n ≤ 256 }
+    requires target { i + n ≤ length col.old }
+    requires source { j + n ≤ length col.old }
+    ensures { col.new ≡ moved i j n col.old }
+{
+    let mut block = [T::zero(); 256];
+    for k in 0..n {
+        block[k] = col[j + k];
+    }
+    for k in 0..n {
+        col[i + k] = block[k];
+    }
+}
+
+// Moves n entries from j on down to i, the first block first.
+fn move_down<T: Entry>(col: &mut [T], i: usize, j: usize, n: usize)
+    requires i_le_j { i ≤ j }
+    requires source { j + n ≤ length col.old }
+    ensures { col.new ≡ moved i j n col.old }
+{
+    let mut k = 0;
+    while k < n {
+        let m = (n - k).min(256);
+        move_block(&mut *col, i + k, j + k, m);
+        k += m;
+    }
+}
+
+// Moves n entries from j on up to i, the last block first.
+fn move_up<T: Entry>(col: &mut [T], i: usize, j: usize, n: usize)
+    requires j_le_i { j ≤ i }
+    requires target { i + n ≤ length col.old }
+    ensures { col.new ≡ moved i j n col.old }
+{
+    let mut k = n;
+    while 0 < k {
+        let m = k.min(256);
+        k -= m;
+        move_block(&mut *col, i + k, j + k, m);
+    }
+}
+
 // The entries from `from` up to `to` move to the front, and the rest becomes zero.
 pub fn move_front<T: Entry>(col: &mut [T], from: usize, to: usize)
     ensures { col.new ≡ move_front T.zero from to col.old }
 {
     let end = to.min(col.len());
     let first = from.min(end);
-    col.copy_within(first..end, 0);
+    move_down(&mut *col, 0, first, end - first);
     zero_from(col, end - first);
 }
 
@@ -83,7 +128,7 @@ pub fn open_gap<T: Entry>(col: &mut [T], at: usize, end: usize, w: usize)
     ensures { col.new ≡ open_gap at end w col.old }
 {
     if (at <= end) && (end <= col.len()) && (w <= col.len() - end) {
-        col.copy_within(at..end, at + w);
+        move_up(&mut *col, at + w, at, end - at);
     }
 }
 
@@ -92,7 +137,7 @@ pub fn close_gap<T: Entry>(col: &mut [T], at: usize, end: usize, w: usize)
     ensures { col.new ≡ close_gap T.zero at end w col.old }
 {
     if (end <= col.len()) && (at <= end) && (w <= end - at) {
-        col.copy_within(at + w..end, at);
+        move_down(&mut *col, at, at + w, end - at - w);
         col[end - w..end].fill(T::zero());
     }
 }
