@@ -2,13 +2,13 @@
 ghost use Rattle.std.specs.Prelude.{◌≡◌};
 ghost use Rattle.path.specs.Records.{lent, held};
 
-// As a call reads them.
+// As a call reads them. Grades and curves are lent apart: a part of one that is handed back lends that one alone.
 #[derive(Clone, Copy)]
-pub struct PathColumns<'a> {
+pub struct PathColumns<'a, 'g, 'c> {
     pub offsets: &'a [f64], // link points: the offset,
     pub numbers: &'a [u32], // and four numbers
-    pub grades: &'a [f64], // offset, coefficient and net value
-    pub curves: &'a [f64],
+    pub grades: &'g [f64], // offset, coefficient and net value
+    pub curves: &'c [f64],
     pub speeds: &'a [f64], // offset and speed
     pub powers: &'a [f64], // start, end and power,
     pub districts: &'a [u32], // and the district
@@ -28,7 +28,7 @@ pub struct PathColumnsMut<'a> {
 
 impl PathColumnsMut<'_> {
     // The columns, to read.
-    pub fn reading(&self) -> PathColumns<'_>
+    pub fn reading(&self) -> PathColumns<'_, '_, '_>
         ensures { lent result ≡ held self.now }
     {
         PathColumns {

@@ -67,7 +67,7 @@ fn record_range(offsets: &[f64], numbers: &[u32], k: usize, lines: Lines) -> Ran
 }
 
 // The column of a kind of records.
-fn column_of<'a>(lines: Lines, cols: &PathColumns<'a>) -> &'a [f64]
+fn column_of<'a>(lines: Lines, cols: &PathColumns<'_, 'a, 'a>) -> &'a [f64]
     ensures { result.now ≡ spec.column_of (is_curves lines) (lent cols.now) }
 {
     match lines {
@@ -76,35 +76,56 @@ fn column_of<'a>(lines: Lines, cols: &PathColumns<'a>) -> &'a [f64]
     }
 }
 
-// The records of link k, grades or curves, as that part of their column.
-pub fn link_records<'a>(
+// The records of link k, grades or curves, as that part of col, their column.
+fn link_part<'a>(
+    col: &'a [f64],
     lines: Lines,
     p: PathTpc,
     k: usize,
-    cols: &PathColumns<'a>,
+    cols: &PathColumns,
 ) -> Result<&'a [f64], Refusal>
+    requires own { col.now ≡ spec.column_of (is_curves lines) (lent cols.now) }
     ensures { spec.part_told result ≡ spec.link_records_of (is_curves lines) k p (lent cols.now) }
 {
     part_answer(p, k, cols)?;
     let r = record_range(cols.offsets, cols.numbers, k, lines);
     let from = r.from;
     let to = from + r.len;
-    let col = column_of(lines, cols);
     Ok(&col[from..to])
 }
 
-// The grades of link k. While the part is held all seven columns are lent; `link_range` lends none.
-pub fn link_grades<'a>(p: PathTpc, k: usize, cols: &PathColumns<'a>) -> Result<&'a [f64], Refusal>
-    ensures { spec.part_told result ≡ spec.link_grades_of k p (lent cols.now) }
+// The records of link k, grades or curves, as that part of their column.
+pub fn link_records<'a>(
+    lines: Lines,
+    p: PathTpc,
+    k: usize,
+    cols: &PathColumns<'_, 'a, 'a>,
+) -> Result<&'a [f64], Refusal>
+    ensures { spec.part_told result ≡ spec.link_records_of (is_curves lines) k p (lent cols.now) }
 {
-    link_records(Lines::Grades, p, k, cols)
+    link_part(column_of(lines, cols), lines, p, k, cols)
 }
 
-// The curves of link k.
-pub fn link_curves<'a>(p: PathTpc, k: usize, cols: &PathColumns<'a>) -> Result<&'a [f64], Refusal>
+// The grades of link k. While the part is held the grades alone are lent.
+pub fn link_grades<'g>(
+    p: PathTpc,
+    k: usize,
+    cols: &PathColumns<'_, 'g, '_>,
+) -> Result<&'g [f64], Refusal>
+    ensures { spec.part_told result ≡ spec.link_grades_of k p (lent cols.now) }
+{
+    link_part(cols.grades, Lines::Grades, p, k, cols)
+}
+
+// The curves of link k. While the part is held the curves alone are lent.
+pub fn link_curves<'c>(
+    p: PathTpc,
+    k: usize,
+    cols: &PathColumns<'_, '_, 'c>,
+) -> Result<&'c [f64], Refusal>
     ensures { spec.part_told result ≡ spec.link_curves_of k p (lent cols.now) }
 {
-    link_records(Lines::Curves, p, k, cols)
+    link_part(cols.curves, Lines::Curves, p, k, cols)
 }
 
 // Where the records of link k lie in the column of grades or of curves.

@@ -29,14 +29,14 @@ pub struct Path {
 fn column_of<T: Number>(
     alloc: Global,
     columns: &Columns,
-    name: &str,
+    name: &[u8],
 ) -> Result<Vec<T>, AllocError> {
     Vec::from_slice(alloc, columns.column::<T>(name).unwrap_or(&[]))
 }
 
 // The path's record.
 fn record(columns: &Columns) -> PathTpc {
-    let counts = columns.column::<u32>("counts").unwrap_or(&[]);
+    let counts = columns.line::<u32>(b"counts").unwrap_or(&[]);
     PathTpc {
         link_count: column::get(counts, 0) as usize,
         grade_count: column::get(counts, 1) as usize,
@@ -52,18 +52,18 @@ impl Path {
     fn read(alloc: Global, columns: &Columns) -> Result<Path, AllocError> {
         Ok(Path {
             record: record(columns),
-            offsets: column_of(alloc, columns, "offsets")?,
-            numbers: column_of(alloc, columns, "numbers")?,
-            grades: column_of(alloc, columns, "grades")?,
-            curves: column_of(alloc, columns, "curves")?,
-            speeds: column_of(alloc, columns, "speeds")?,
-            powers: column_of(alloc, columns, "powers")?,
-            districts: column_of(alloc, columns, "districts")?,
+            offsets: column_of(alloc, columns, b"offsets")?,
+            numbers: column_of(alloc, columns, b"numbers")?,
+            grades: column_of(alloc, columns, b"grades")?,
+            curves: column_of(alloc, columns, b"curves")?,
+            speeds: column_of(alloc, columns, b"speeds")?,
+            powers: column_of(alloc, columns, b"powers")?,
+            districts: column_of(alloc, columns, b"districts")?,
         })
     }
 
     // Its columns, to read.
-    fn reading(&self) -> PathColumns<'_> {
+    fn reading(&self) -> PathColumns<'_, '_, '_> {
         PathColumns {
             offsets: &self.offsets,
             numbers: &self.numbers,
@@ -90,7 +90,7 @@ impl Path {
 }
 
 // position TRAIN FRONT BACK LINK LINK OFFSET: the position, and the link numbers and the offset that a refused call leaves.
-pub fn position(alloc: Global, columns: &Columns, args: &[&str]) -> Result<Reply, Fault> {
+pub fn position(alloc: Global, columns: &Columns, args: &[&[u8]]) -> Result<Reply, Fault> {
     let [train, front, back, link_front, link_back, in_link] = args else {
         return Err(Fault::Unreadable);
     };
@@ -104,7 +104,7 @@ pub fn position(alloc: Global, columns: &Columns, args: &[&str]) -> Result<Reply
 }
 
 // posted OFFSET: the speed posted there.
-pub fn posted(alloc: Global, columns: &Columns, args: &[&str]) -> Result<Reply, Fault> {
+pub fn posted(alloc: Global, columns: &Columns, args: &[&[u8]]) -> Result<Reply, Fault> {
     let [offset] = args else {
         return Err(Fault::Unreadable);
     };
@@ -123,7 +123,7 @@ pub struct Trimmed {
 }
 
 // trims OFFSET ..
-pub fn trims(alloc: Global, columns: &Columns, args: &[&str]) -> Result<Trimmed, Fault> {
+pub fn trims(alloc: Global, columns: &Columns, args: &[&[u8]]) -> Result<Trimmed, Fault> {
     let xs = numbers::<f64>(alloc, args)?;
     let mut p = Path::read(alloc, columns)?;
     let before = p.record;

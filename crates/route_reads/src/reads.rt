@@ -22,7 +22,7 @@ use train::train_state::TrainState;
 #[derive(Clone, Copy)]
 pub struct PathView<'a> {
     pub record: PathTpc,
-    pub columns: PathColumns<'a>,
+    pub columns: PathColumns<'a, 'a, 'a>,
 }
 
 // The straps of grades and curves.

@@ -1,10 +1,10 @@
--- `link_records`: refused, or the link's part of the column.
+-- `link_part`: refused, or the link's part of the column.
 use native.Mathlib.Omega.{arith}
 use Rattle.path.specs.Records.{lent}
 use Rattle.path.specs.Sound.{is_curves}
 use Rattle.path.proofs.Told.{told-err, told-ok}
 use Rattle.path_link_records.proofs.LinkParts.{inside, none-handed, range-few, range-within, part-handed}
-use Rattle.path_link_records.proofs.link_records.link_records.Goals as goal
+use Rattle.path_link_records.proofs.link_records.link_part.Goals as goal
 
 pub returns-in_err-part_answer : goal.returns-in_err-part_answer
 returns-in_err-part_answer c =
@@ -25,14 +25,14 @@ overflow_add-to c =
 pub offset_bounds-col-from : goal.offset_bounds-col-from
 offset_bounds-col-from c =
     let a = c.args in
-    omega (arith, range-within a.k a.p (lent a.cols.now) (is_curves a.lines) (told-ok c.part_answer.ensures c.in_ok-part_answer.was) c.record_range-r.ensures c.column_of-col.ensures)
+    omega (arith, range-within a.k a.p (lent a.cols.now) (is_curves a.lines) (told-ok c.part_answer.ensures c.in_ok-part_answer.was) c.record_range-r.ensures c.requires.own)
 
 pub slice_bounds-result-end : goal.slice_bounds-result-end
 slice_bounds-result-end c =
     let a = c.args in
-    omega (arith, range-within a.k a.p (lent a.cols.now) (is_curves a.lines) (told-ok c.part_answer.ensures c.in_ok-part_answer.was) c.record_range-r.ensures c.column_of-col.ensures)
+    omega (arith, range-within a.k a.p (lent a.cols.now) (is_curves a.lines) (told-ok c.part_answer.ensures c.in_ok-part_answer.was) c.record_range-r.ensures c.requires.own)
 
 pub returns : goal.returns
 returns c =
     let a = c.args in
-    part-handed a.k a.p (lent a.cols.now) (is_curves a.lines) (told-ok c.part_answer.ensures c.in_ok-part_answer.was) c.record_range-r.ensures c.column_of-col.ensures
+    part-handed a.k a.p (lent a.cols.now) (is_curves a.lines) (told-ok c.part_answer.ensures c.in_ok-part_answer.was) c.record_range-r.ensures c.requires.own
