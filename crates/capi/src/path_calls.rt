@@ -3,7 +3,7 @@ ghost use Rattle.std.specs.Prelude.{◌≡◌};
 ghost use Rattle.link.specs.Table.{table_of};
 ghost use Rattle.path.specs.Records.{columns};
 ghost use Rattle.path.specs.Answers.{Outcome, left};
-ghost use Rattle.path_ends.specs.New.{no_path, new_of};
+ghost use Rattle.path_ends.specs.New.{new_of};
 ghost use Rattle.path_ends.specs.Finish.{finish_of};
 ghost use Rattle.path_clear.specs.Clear.{Cleared, clear_of};
 ghost use Rattle.path_clear.specs.Trims.{clear_each};
@@ -19,25 +19,11 @@ use path::path_tpc::{PathAnswer, PathTpc};
 use path_clear::clear::{ClearAnswer, clear};
 use path_clear::clear_each::clear_each;
 use path_ends::finish::finish;
-use path_ends::new::new;
+use path_ends::new::{new, no_path};
 use path_extend::extend::extend;
 use path_reindex::reindex::reindex;
 use path_speeds::recalc_speeds::recalc_speeds;
 use si::Length;
-
-// What goes with the answer of a refused `new`: no path.
-fn no_path() -> PathTpc
-    ensures { result ≡ no_path }
-{
-    PathTpc {
-        link_count: 0,
-        grade_count: 0,
-        curve_count: 0,
-        speed_count: 0,
-        power_count: 0,
-        is_finished: false,
-    }
-}
 
 // `new`: a path without links.
 #[unsafe(no_mangle)]

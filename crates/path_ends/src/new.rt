@@ -26,6 +26,20 @@ fn start_record() -> PathTpc
     }
 }
 
+// What goes with the answer of a refused `new`: no path.
+pub fn no_path() -> PathTpc
+    ensures { result ≡ no_path }
+{
+    PathTpc {
+        link_count: 0,
+        grade_count: 0,
+        curve_count: 0,
+        speed_count: 0,
+        power_count: 0,
+        is_finished: false,
+    }
+}
+
 // A path with one link point, grade and curve record, all zero, and the speed point (0, top speed).
 pub fn new(train: TrainParams, cols: &mut PathColumnsMut) -> Result<PathTpc, Refusal>
     ensures same { Same cols.old cols.new }

@@ -3,9 +3,10 @@ ghost use Rattle.std.specs.Prelude.{◌≤◌};
 
 use crate::beside::{Course, Original};
 use crate::progress::Clock;
-use crate::session::{Counts, Joined, Route, Run, no_path, run_lines};
+use crate::session::{Counts, Joined, Route, Run, run_lines};
 use link::network::Network;
 use path::columns::PathColumnsMut;
+use path_ends::new::no_path;
 use route::fill::{TableColumns, fill_table, train_of};
 use speed::laid::Laid;
 use std::rt;

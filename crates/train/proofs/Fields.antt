@@ -23,7 +23,8 @@ use Rattle.path.proofs.Clauses.{sound-within, some-link}
 use Rattle.train.specs.declared.train_state.TrainState.{TrainState}
 use Rattle.train.specs.declared.locate.LinkFields.{LinkFields}
 use Rattle.train.specs.Position.{front_of, back_of, state_finite}
-use Rattle.train.specs.Locate.{Located, state_told, placed, located_told, point_behind, offset_in_link_of, not_before_path, located_as_before, located_at, locate_answer, locate_of}
+use Rattle.train.specs.declared.locate.Located.{Located}
+use Rattle.train.specs.Locate.{state_told, placed, located_told, point_behind, offset_in_link_of, not_before_path, located_as_before, located_at, locate_answer, locate_of}
 
 -- ---- a refusal that `?` hands on
 pub handed-located : (s : TrainState) (r : Result LinkFields Refusal) (f : Refusal) → IsErrAnd r (λ g. g ≡ f) → located_told s r ≡ located_as_before s (refusal f)

@@ -1,5 +1,5 @@
 -- `set_link_and_offset`, R74 and R75: train_state.rs. Definitions only.
-use Rattle.std.specs.Prelude.{◌-◌, Bool, ◌&&◌, cond, List, [], ◌∷◌, length, Float, Result, Ok, Err, ℕ}
+use Rattle.std.specs.Prelude.{◌-◌, Bool, ◌&&◌, cond, List, [], ◌∷◌, length, Float, Result, Ok, Err}
 use Rattle.std.specs.Float.Ieee as Ieee
 use Rattle.std.specs.Float.Ieee.Scale.{finite}
 use Rattle.ieee.specs.Number.{◌⊖◌}
@@ -7,7 +7,6 @@ use Rattle.lookup.specs.Search.{last_not_after}
 use Rattle.path.specs.declared.path_tpc.PathTpc.{PathTpc}
 use Rattle.answer.specs.declared.Answer.{Answer}
 use Rattle.answer.specs.declared.Refusal.{Refusal}
-use Rattle.si.specs.declared.Length.{Length}
 use Rattle.path.specs.declared.link_point.LinkPoint.{LinkPoint}
 use Rattle.path.specs.Records.{Columns, offset_of, number_of, link_point_at, path_of}
 use Rattle.answer.specs.Answers.{done, refusal}
@@ -15,6 +14,7 @@ use Rattle.path.specs.Answers.{is_done, ask, in_turn}
 use Rattle.path.specs.Sound.{path_answer}
 use Rattle.train.specs.declared.train_state.TrainState.{TrainState}
 use Rattle.train.specs.declared.locate.LinkFields.{LinkFields}
+use Rattle.train.specs.declared.locate.Located.{Located}
 use Rattle.train.specs.declared.set_link_and_offset.StateAnswer.{StateAnswer}
 use Rattle.train.specs.Position.{front_of, back_of, state_finite}
 
@@ -29,13 +29,6 @@ offset_in_link_of s ps = front_of s ⊖ offset_of (point_behind (front_of s) ps)
 -- question 10 (R113): front and back not before the first link point
 abbrev pub not_before_path : TrainState → List LinkPoint → Bool
 not_before_path s ps = Ieee.le (offset_of (link_point_at ps 0)) (front_of s) && Ieee.le (offset_of (link_point_at ps 0)) (back_of s)
-
--- an answer, and the three link fields of a position that go with it
-pub record Located : Type 0 where
-  pub answer : Answer
-  pub link_idx_front : ℕ
-  pub link_idx_back : ℕ
-  pub offset_in_link : Length
 
 -- the three link fields as they came
 abbrev pub located_as_before : TrainState → Answer → Located

@@ -6,7 +6,7 @@ ghost use Rattle.path.specs.Answers.{ask};
 ghost use Rattle.train.specs.Locate as spec;
 
 use crate::train_state::{TrainState, state_finite};
-use answer::{Question, Refusal};
+use answer::{Answer, Question, Refusal};
 use path::columns::PathColumns;
 use path::link_point::{LinkPoint, link_point_at};
 use path::path_tpc::PathTpc;
@@ -19,6 +19,37 @@ pub struct LinkFields {
     pub link_idx_front: u32,
     pub link_idx_back: u32,
     pub offset_in_link: Length,
+}
+
+// An answer, and the three link fields of a position that go with it.
+#[derive(Clone, Copy)]
+pub struct Located {
+    pub answer: Answer,
+    pub link_idx_front: u32,
+    pub link_idx_back: u32,
+    pub offset_in_link: Length,
+}
+
+impl Located {
+    // What is told of a position that was located: where that was refused, the fields that it came with.
+    pub fn told(before: TrainState, r: Result<LinkFields, Refusal>) -> Located
+        ensures { result ≡ spec.located_told before r }
+    {
+        match r {
+            Ok(found) => Located {
+                answer: Answer::from(Ok(())),
+                link_idx_front: found.link_idx_front,
+                link_idx_back: found.link_idx_back,
+                offset_in_link: found.offset_in_link,
+            },
+            Err(e) => Located {
+                answer: Answer::from(e),
+                link_idx_front: before.link_idx_front,
+                link_idx_back: before.link_idx_back,
+                offset_in_link: before.offset_in_link,
+            },
+        }
+    }
 }
 
 // The last of n link points at or before x; the first where none is.
