@@ -103,10 +103,11 @@ module _ (ps : List LinkPoint) where
       next-is : going_of d k (x ∷ drop (k + 1) xs) ps ≡ going_of 0 0 xs ps
       next-is = ap (λ (l : List Float). going_of d k l ps) (ap₂ ◌∷◌ e (ap (λ (j : ℕ). drop j xs) (add-one k)) ∙ sym (drop-cons xs k nan h)) ∙ inv
 
-      pub going-refused : (a.number ≡ 0 → ⊥) → (going_of 0 0 xs ps).answer ≡ record { number = a.number; place = k }
+      pub going-refused : (a.number ≡ 0 → ⊥) → going_of 0 0 xs ps ≡ record { gone = d; answer = record { number = a.number; place = k } }
       going-refused n =
-          ap (λ (g : Progress). g.answer) (sym next-is ∙ going-ends d k x (drop (k + 1) xs) (ne_eqb (trim_answer x (drop d ps)).number 0 (λ z. n (ap (λ (b : Answer). b.number) asked ∙ z))))
-          ∙ ap (λ (b : Answer). record { number = b.number; place = k }) (sym asked)
+          sym next-is
+          ∙ going-ends d k x (drop (k + 1) xs) (ne_eqb (trim_answer x (drop d ps)).number 0 (λ z. n (ap (λ (b : Answer). b.number) asked ∙ z)))
+          ∙ ap (λ (b : Answer). record { gone = d; answer = record { number = b.number; place = k } }) (sym asked)
 
       module _ (t : a.number ≡ 0) {m : ℕ} (g : m ≡ d + drop_count x (drop d ps)) where
         trim-passed : (trim_answer x (drop d ps)).number ≡ 0
