@@ -26,7 +26,7 @@ pub fn line_at(text: &[u8], n: usize) -> Option<&[u8]> {
 }
 
 // The number of the line that has the n-th link, from 1; none where there are fewer links.
-fn line_of_link(text: &[u8], n: usize) -> Option<usize> {
+pub fn line_of_link(text: &[u8], n: usize) -> Option<usize> {
     let mut links = 0usize;
     for (i, line) in text.split(is_line_end).enumerate() {
         if kind_of(line, 0) == Kind::Table(TableLine::Link) {

@@ -152,24 +152,27 @@ pub fn change_refused(
     let call = line.call;
     let place = refusal.place;
     let n = link_at(call, list, columns.numbers, place);
-    let link = Named::new(line.text, n);
+    // Only what is said of a link looks for its line.
+    let text = line.text;
     match refusal.question {
         Question::Finite if call == Call::Clear => write!(err, "{}", offset_wrong(x)),
         Question::Finite => write!(err, "{}", train_wrong(train)),
         Question::InTable => absent(err, call, n),
         Question::Follows => {
             let prev = link_before(list, columns.numbers, p, place);
-            not_following(err, link, n, prev, network);
+            not_following(err, Named::new(text, n), n, prev, network);
         }
-        Question::Formed => not_formed(err, link, n, network),
+        Question::Formed => not_formed(err, Named::new(text, n), n, network),
         Question::HasSet => write!(
             err,
-            "{link} has no set for {} trains and none for all",
+            "{} has no set for {} trains and none for all",
+            Named::new(text, n),
             type_word(train.train_type)
         ),
         Question::Results => write!(
             err,
-            "{link}: with it a figure becomes too large to be a number, or its end is not beyond its beginning"
+            "{}: with it a figure becomes too large to be a number, or its end is not beyond its beginning",
+            Named::new(text, n)
         ),
         Question::InRange => reach(err, p, columns.offsets),
         question => {

@@ -76,17 +76,6 @@ pub struct Run<'a> {
     pub warned: bool,
 }
 
-pub fn no_path() -> PathTpc {
-    PathTpc {
-        link_count: 0,
-        grade_count: 0,
-        curve_count: 0,
-        speed_count: 0,
-        power_count: 0,
-        is_finished: false,
-    }
-}
-
 // The number of the last link point of a path, from 0.
 fn last_of(p: PathTpc) -> usize {
     p.link_count.saturating_sub(1)
@@ -320,7 +309,10 @@ impl Run<'_> {
         match line.call {
             Call::Show => {
                 write!(to.out, "\n");
-                self.show_table();
+                // Behind a picture there is no table.
+                if let Shown::Table = self.route.shown {
+                    self.show_table();
+                }
                 true
             }
             Call::Powers => {
