@@ -51,16 +51,14 @@ impl Read {
     }
 }
 
-// The calls on a list that answer one line.
+// The calls that search the list.
 #[derive(Clone, Copy)]
 pub enum Search {
     CalcIdx,
     PointNew,
     PointRes,
-    PointFix,
     StrapNew,
     StrapRes,
-    StrapFix,
 }
 
 impl Search {
@@ -69,10 +67,24 @@ impl Search {
             Search::CalcIdx => "calc_idx",
             Search::PointNew => "Point::new",
             Search::PointRes => "Point::calc_res",
-            Search::PointFix => "Point::fix_cache",
             Search::StrapNew => "Strap::new",
             Search::StrapRes => "Strap::calc_res",
-            Search::StrapFix => "Strap::fix_cache",
+        }
+    }
+}
+
+// The calls that move a point or a strap and read no list.
+#[derive(Clone, Copy)]
+pub enum Fix {
+    Point,
+    Strap,
+}
+
+impl Fix {
+    pub fn name(self) -> &'static str {
+        match self {
+            Fix::Point => "Point::fix_cache",
+            Fix::Strap => "Strap::fix_cache",
         }
     }
 }
@@ -84,6 +96,7 @@ pub enum Call {
     Clear,
     Read(Read),
     Search(Search),
+    Fix(Fix),
     PointValues,
     StrapValues,
 }
@@ -113,8 +126,8 @@ pub fn of_code(code: u64) -> Option<Call> {
         0x14 => Some(Call::Read(Read::Curves)),
         0x15 => Some(Call::PointValues),
         0x16 => Some(Call::StrapValues),
-        0x17 => Some(Call::Search(Search::PointFix)),
-        0x18 => Some(Call::Search(Search::StrapFix)),
+        0x17 => Some(Call::Fix(Fix::Point)),
+        0x18 => Some(Call::Fix(Fix::Strap)),
         _ => None,
     }
 }

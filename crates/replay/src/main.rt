@@ -16,23 +16,44 @@ use path::path_tpc::PathTpc;
 use paths::Path;
 use print::{Reply, Values};
 use session::Session;
-use std::alloc::Global;
+use show::Sink;
+use std::alloc::{AllocError, Global};
 use std::io;
 use std::io::Read as _;
 use words::Column;
 
 // What is told at the point.
-fn point_values(rt: &impl Print, s: &Session) -> io::Result<()> {
-    println!(rt; "Point::res_coeff_front{}", Reply(s.point_coeff()))?;
-    println!(rt; "Point::res_net_front{}", Reply(s.point_net()))
+fn point_values(out: Sink, s: &Session, list: &[f64]) {
+    write!(
+        out,
+        "Point::res_coeff_front{}\n",
+        Reply(s.point_coeff(list))
+    );
+    write!(out, "Point::res_net_front{}\n", Reply(s.point_net(list)));
 }
 
 // What is told at the strap.
-fn strap_values(rt: &impl Print, s: &Session) -> io::Result<()> {
-    println!(rt; "Strap::res_coeff_front{}", Reply(s.strap_coeff_front()))?;
-    println!(rt; "Strap::res_coeff_back{}", Reply(s.strap_coeff_back()))?;
-    println!(rt; "Strap::res_net_front{}", Reply(s.strap_net_front()))?;
-    println!(rt; "Strap::res_net_back{}", Reply(s.strap_net_back()))
+fn strap_values(out: Sink, s: &Session, list: &[f64]) {
+    write!(
+        out,
+        "Strap::res_coeff_front{}\n",
+        Reply(s.strap_coeff_front(list))
+    );
+    write!(
+        out,
+        "Strap::res_coeff_back{}\n",
+        Reply(s.strap_coeff_back(list))
+    );
+    write!(
+        out,
+        "Strap::res_net_front{}\n",
+        Reply(s.strap_net_front(list))
+    );
+    write!(
+        out,
+        "Strap::res_net_back{}\n",
+        Reply(s.strap_net_back(list))
+    );
 }
 
 // What a call that reads the path answers.
@@ -46,47 +67,55 @@ fn read(s: &Session, path: &Path, r: Read, args: Column) -> Result<Values, Refus
 }
 
 // One call, with the words behind it.
-fn one(
-    rt: &impl Print,
+fn one<'a>(
+    out: Sink,
     alloc: Global,
-    s: &mut Session,
+    s: &mut Session<'a>,
     path: &mut Path,
     call: Call,
-    args: Column,
-) -> io::Result<()> {
+    args: Column<'a>,
+) -> Result<(), AllocError> {
     match call {
-        Call::Set(what) => s.set(alloc, what, args)?,
+        Call::Set(what) => s.set(what, args),
         Call::Change(c) => {
             let r = s.change(alloc, path, c, args)?;
-            println!(rt; "{}{}\n{}", c.name(), Reply(r), path)?;
+            write!(out, "{}{}\n{}\n", c.name(), Reply(r), path);
         }
         Call::Clear => {
             let r = path.clear(args.float_at(0));
-            println!(rt; "clear{}\n{}", Reply(r), path)?;
+            write!(out, "clear{}\n{}\n", Reply(r), path);
         }
-        Call::Read(r) => println!(rt; "{}{}", r.name(), Reply(read(&*s, &*path, r, args)))?,
+        Call::Read(r) => {
+            let values = read(&*s, &*path, r, args);
+            write!(out, "{}{}\n", r.name(), Reply(values));
+        }
         Call::Search(c) => {
-            let r = s.search(c, args);
-            println!(rt; "{}{}", c.name(), Reply(r))?;
+            let list = s.listed(alloc)?;
+            let r = s.search(c, &list, args);
+            write!(out, "{}{}\n", c.name(), Reply(r));
         }
-        Call::PointValues => point_values(rt, &*s)?,
-        Call::StrapValues => strap_values(rt, &*s)?,
+        Call::Fix(f) => {
+            let r = s.fix(f, args);
+            write!(out, "{}{}\n", f.name(), Reply(r));
+        }
+        Call::PointValues => point_values(out, &*s, &s.listed(alloc)?),
+        Call::StrapValues => strap_values(out, &*s, &s.listed(alloc)?),
     }
     Ok(())
 }
 
 // How many bytes of a text are read.
-const BYTES: u64 = 400_000;
+const BYTES: usize = 400_000;
 
 // One call after another on this path: each is its code and the column of its arguments.
-fn replay(rt: &impl Print, alloc: Global, words: &[u64], path: &mut Path) -> io::Result<()> {
-    let mut s = Session::new(alloc, Column(words))?;
+fn replay(out: Sink, alloc: Global, words: &[u64], path: &mut Path) -> Result<(), AllocError> {
+    let mut s = Session::new(Column(words));
     let mut rest = words;
     // No `for`: a call is as long as its count of words says.
     while let [code, behind @ ..] = rest {
         let args = Column(behind);
         if let Some(call) = call::of_code(*code) {
-            one(rt, alloc, &mut s, path, call, args)?;
+            one(out, alloc, &mut s, path, call, args)?;
         }
         rest = args.behind();
     }
@@ -95,7 +124,7 @@ fn replay(rt: &impl Print, alloc: Global, words: &[u64], path: &mut Path) -> io:
 
 // The calls on a path with room for 48 link points, 160 grades, curves and speed points, and 64 power limits:
 // the bounds of the run that is stored.
-fn on_path(rt: &impl Print, alloc: Global, words: &[u64]) -> io::Result<()> {
+fn on_path(out: Sink, alloc: Global, words: &[u64]) -> Result<(), AllocError> {
     let mut offsets = [0.0f64; 48];
     let mut numbers = [0u32; 192];
     let mut grades = [0.0f64; 480];
@@ -122,13 +151,14 @@ fn on_path(rt: &impl Print, alloc: Global, words: &[u64]) -> io::Result<()> {
             districts: &mut districts,
         },
     };
-    replay(rt, alloc, words, &mut path)
+    replay(out, alloc, words, &mut path)
 }
 
 fn main(rt: HostRuntime) -> io::Result<()> {
     let alloc = rt.alloc();
-    let mut text = Vec::new(alloc);
-    let _ = rt.reader().take(BYTES).read_to_end(&mut text); // a read that fails ends the text
+    let mut text = Vec::with_capacity(alloc, BYTES + 1)?; // more than is read, so that no memory is asked for meanwhile
+    let _ = rt.reader().take(BYTES as u64).read_to_end(&mut text); // a read that fails ends the text
     let words = words::words(alloc, &text)?;
-    on_path(&rt, alloc, &words)
+    on_path(Sink::Output(rt.stdout()), alloc, &words)?;
+    Ok(())
 }

@@ -130,7 +130,7 @@ impl fmt::Display for Point {
 
 // The link points of a path, and its power limits.
 #[derive(Clone, Copy)]
-struct Points<'a>(PathTpc, PathColumns<'a>);
+struct Points<'a>(PathTpc, PathColumns<'a, 'a, 'a>);
 
 impl fmt::Display for Points<'_> {
     fn fmt<W: fmt::Write>(&self, f: &mut fmt::Formatter<W>) -> fmt::Result {
@@ -143,7 +143,7 @@ impl fmt::Display for Points<'_> {
 }
 
 #[derive(Clone, Copy)]
-struct Limits<'a>(PathTpc, PathColumns<'a>);
+struct Limits<'a>(PathTpc, PathColumns<'a, 'a, 'a>);
 
 impl fmt::Display for Limits<'_> {
     fn fmt<W: fmt::Write>(&self, f: &mut fmt::Formatter<W>) -> fmt::Result {

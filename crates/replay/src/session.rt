@@ -1,5 +1,5 @@
 // What later calls are made on: the train, the table, the list, the position, a point and a strap; and the calls on the list.
-use crate::call::{Change, Search, Set};
+use crate::call::{Change, Fix, Search, Set};
 use crate::paths::Path;
 use crate::print::Values;
 use crate::table::Table;
@@ -14,37 +14,43 @@ use si::Length;
 use std::alloc::{AllocError, Global};
 use train::train_state::TrainState;
 
-#[derive(Drop)]
-pub struct Session {
+// The table and the list are kept as their places among the words, and laid out for each call that reads them.
+#[derive(Clone, Copy)]
+pub struct Session<'a> {
     train: TrainParams,
-    table: Table,
-    list: Vec<f64>,
+    table: Column<'a>,
+    list: Column<'a>,
     pub state: TrainState,
     point: Point,
     strap: Strap,
 }
 
-impl Session {
+// How many records a list has.
+fn records(list: &[f64]) -> usize {
+    list.len() / 3
+}
+
+impl<'a> Session<'a> {
     // What is made before anything is set reads the text's first words.
-    pub fn new(alloc: Global, first: Column) -> Result<Session, AllocError> {
-        Ok(Session {
+    pub fn new(first: Column<'a>) -> Session<'a> {
+        Session {
             train: words::train(first),
-            table: Table::read(alloc, first)?,
-            list: first.floats(alloc, 0..first.held())?,
+            table: first,
+            list: first,
             state: words::state(first),
             point: Point { idx: 0 },
             strap: Strap {
                 idx_front: 0,
                 idx_back: 0,
             },
-        })
+        }
     }
 
-    pub fn set(&mut self, alloc: Global, what: Set, args: Column) -> Result<(), AllocError> {
+    pub fn set(&mut self, what: Set, args: Column<'a>) {
         match what {
             Set::Train => self.train = words::train(args),
-            Set::Table => self.table = Table::read(alloc, args)?,
-            Set::List => self.list = args.floats(alloc, 0..args.held())?,
+            Set::Table => self.table = args,
+            Set::List => self.list = args,
             Set::State => self.state = words::state(args),
             Set::Point => self.point.idx = args.entry(0) as usize,
             Set::Strap => {
@@ -54,7 +60,6 @@ impl Session {
                 }
             }
         }
-        Ok(())
     }
 
     // A call that may change the path.
@@ -65,25 +70,32 @@ impl Session {
         c: Change,
         args: Column,
     ) -> Result<Result<Values, Refusal>, AllocError> {
-        let list = args.numbers(alloc, 0..args.held())?;
-        let t = self.table.network();
         Ok(match c {
             Change::New => path.start(self.train),
-            Change::Extend => path.extend(self.train, &list, t),
+            Change::Extend => {
+                let list = args.numbers(alloc, args.held())?;
+                let table = Table::read(alloc, self.table)?;
+                path.extend(self.train, &list, table.network())
+            }
             Change::Finish => path.finish(),
-            Change::RecalcSpeeds => path.recalc_speeds(self.train, t),
-            Change::Reindex => path.reindex(&list),
+            Change::RecalcSpeeds => {
+                let table = Table::read(alloc, self.table)?;
+                path.recalc_speeds(self.train, table.network())
+            }
+            Change::Reindex => {
+                let list = args.numbers(alloc, args.held())?;
+                path.reindex(&list)
+            }
         })
     }
 
-    // How many records the list has.
-    fn records(&self) -> usize {
-        self.list.len() / 3
+    // The list, laid out.
+    pub fn listed(&self, alloc: Global) -> Result<Vec<f64>, AllocError> {
+        self.list.floats(alloc, self.list.held())
     }
 
-    pub fn search(&mut self, c: Search, args: Column) -> Result<Values, Refusal> {
-        let list = &self.list;
-        let n = self.records();
+    pub fn search(&mut self, c: Search, list: &[f64], args: Column) -> Result<Values, Refusal> {
+        let n = records(list);
         let state = self.state;
         match c {
             Search::CalcIdx => {
@@ -101,10 +113,6 @@ impl Session {
                 let there = self.point.calc_res(list, n, state, dir)?;
                 Ok(self.at_point(Ok(there.point))?.with_value(there.res.0))
             }
-            Search::PointFix => {
-                let fixed = self.point.fix_cache(args.entry(0) as usize);
-                self.at_point(fixed)
-            }
             Search::StrapNew => {
                 let made = Strap::new(list, n, state);
                 self.at_strap(made)
@@ -114,8 +122,18 @@ impl Session {
                 let there = self.strap.calc_res(list, n, state, dir)?;
                 Ok(self.at_strap(Ok(there.strap))?.with_value(there.res.0))
             }
-            Search::StrapFix => {
-                let fixed = self.strap.fix_cache(args.entry(0) as usize);
+        }
+    }
+
+    pub fn fix(&mut self, f: Fix, args: Column) -> Result<Values, Refusal> {
+        let k = args.entry(0) as usize;
+        match f {
+            Fix::Point => {
+                let fixed = self.point.fix_cache(k);
+                self.at_point(fixed)
+            }
+            Fix::Strap => {
+                let fixed = self.strap.fix_cache(k);
                 self.at_strap(fixed)
             }
         }
@@ -133,36 +151,36 @@ impl Session {
         Ok(Values::indices(s.path_tpc_idx_front(), s.idx_back))
     }
 
-    pub fn point_coeff(&self) -> Result<Values, Refusal> {
-        let r = self.point.res_coeff_front(&self.list, self.records())?;
+    pub fn point_coeff(&self, list: &[f64]) -> Result<Values, Refusal> {
+        let r = self.point.res_coeff_front(list, records(list))?;
         Ok(Values::value(r.0))
     }
 
-    pub fn point_net(&self) -> Result<Values, Refusal> {
-        let n = self.records();
-        let r = self.point.res_net_front(&self.list, n, self.state)?;
+    pub fn point_net(&self, list: &[f64]) -> Result<Values, Refusal> {
+        let n = records(list);
+        let r = self.point.res_net_front(list, n, self.state)?;
         Ok(Values::value(r.0))
     }
 
-    pub fn strap_coeff_front(&self) -> Result<Values, Refusal> {
-        let r = self.strap.res_coeff_front(&self.list, self.records())?;
+    pub fn strap_coeff_front(&self, list: &[f64]) -> Result<Values, Refusal> {
+        let r = self.strap.res_coeff_front(list, records(list))?;
         Ok(Values::value(r.0))
     }
 
-    pub fn strap_coeff_back(&self) -> Result<Values, Refusal> {
-        let r = self.strap.res_coeff_back(&self.list, self.records())?;
+    pub fn strap_coeff_back(&self, list: &[f64]) -> Result<Values, Refusal> {
+        let r = self.strap.res_coeff_back(list, records(list))?;
         Ok(Values::value(r.0))
     }
 
-    pub fn strap_net_front(&self) -> Result<Values, Refusal> {
-        let n = self.records();
-        let r = self.strap.res_net_front(&self.list, n, self.state)?;
+    pub fn strap_net_front(&self, list: &[f64]) -> Result<Values, Refusal> {
+        let n = records(list);
+        let r = self.strap.res_net_front(list, n, self.state)?;
         Ok(Values::value(r.0))
     }
 
-    pub fn strap_net_back(&self) -> Result<Values, Refusal> {
-        let n = self.records();
-        let r = self.strap.res_net_back(&self.list, n, self.state)?;
+    pub fn strap_net_back(&self, list: &[f64]) -> Result<Values, Refusal> {
+        let n = records(list);
+        let r = self.strap.res_net_back(list, n, self.state)?;
         Ok(Values::value(r.0))
     }
 }

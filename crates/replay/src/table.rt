@@ -1,21 +1,14 @@
-// The link table: its columns, each behind its length among the entries of one column.
+// The link table: its columns, each behind its length among the entries of one column, which are laid out as numbers and as floats.
 use crate::words::{Column, ENTRIES};
 use link::network::Network;
 use std::alloc::{AllocError, Global};
 use std::ops::Range;
 
 #[derive(Drop)]
-pub struct Table {
-    links: Vec<u32>,
-    lengths: Vec<f64>,
-    sets: Vec<u32>,
-    elevs: Vec<f64>,
-    headings: Vec<f64>,
-    limits: Vec<f64>,
-    codes: Vec<u32>,
-    values: Vec<f64>,
-    powers: Vec<f64>,
-    districts: Vec<u32>,
+pub struct Table<'a> {
+    place: Column<'a>,
+    numbers: Vec<u32>,
+    floats: Vec<f64>,
 }
 
 // A column of the table, by the place of its length.
@@ -48,18 +41,26 @@ impl Part<'_> {
         }
     }
 
-    fn floats(self, alloc: Global) -> Result<Vec<f64>, AllocError> {
-        self.table.floats(alloc, self.entries())
-    }
-
-    fn numbers(self, alloc: Global) -> Result<Vec<u32>, AllocError> {
-        self.table.numbers(alloc, self.entries())
+    fn of<T>(self, laid: &[T]) -> &[T] {
+        laid.get(self.entries()).unwrap_or(&[])
     }
 }
 
-impl Table {
-    pub fn read(alloc: Global, table: Column) -> Result<Table, AllocError> {
-        let links = Part { table, at: 1 };
+impl Table<'_> {
+    pub fn read(alloc: Global, place: Column) -> Result<Table, AllocError> {
+        Ok(Table {
+            place,
+            numbers: place.numbers(alloc, ENTRIES)?,
+            floats: place.floats(alloc, ENTRIES)?,
+        })
+    }
+
+    // The table as it is lent.
+    pub fn network(&self) -> Network<'_> {
+        let links = Part {
+            table: self.place,
+            at: 1,
+        };
         let lengths = links.next();
         let sets = lengths.next();
         let elevs = sets.next();
@@ -68,34 +69,17 @@ impl Table {
         let codes = limits.next();
         let values = codes.next();
         let powers = values.next();
-        let districts = powers.next();
-        Ok(Table {
-            links: links.numbers(alloc)?,
-            lengths: lengths.floats(alloc)?,
-            sets: sets.numbers(alloc)?,
-            elevs: elevs.floats(alloc)?,
-            headings: headings.floats(alloc)?,
-            limits: limits.floats(alloc)?,
-            codes: codes.numbers(alloc)?,
-            values: values.floats(alloc)?,
-            powers: powers.floats(alloc)?,
-            districts: districts.numbers(alloc)?,
-        })
-    }
-
-    // The table as it is lent.
-    pub fn network(&self) -> Network<'_> {
         Network {
-            links: &self.links,
-            lengths: &self.lengths,
-            sets: &self.sets,
-            elevs: &self.elevs,
-            headings: &self.headings,
-            limits: &self.limits,
-            codes: &self.codes,
-            values: &self.values,
-            powers: &self.powers,
-            districts: &self.districts,
+            links: links.of(&self.numbers),
+            lengths: lengths.of(&self.floats),
+            sets: sets.of(&self.numbers),
+            elevs: elevs.of(&self.floats),
+            headings: headings.of(&self.floats),
+            limits: limits.of(&self.floats),
+            codes: codes.of(&self.numbers),
+            values: values.of(&self.floats),
+            powers: powers.of(&self.floats),
+            districts: powers.next().of(&self.numbers),
         }
     }
 }

@@ -6,7 +6,6 @@ use link::train_params::{TrainParams, TrainType};
 use lookup::lin_search_hint::Dir;
 use si::{Force, Length, Mass, Ratio, Velocity};
 use std::alloc::{AllocError, Global};
-use std::ops::Range;
 use train::train_state::TrainState;
 
 // How many words of a text are read, and how many entries of a column.
@@ -37,15 +36,17 @@ fn without_comment(line: &[u8]) -> &[u8] {
 
 // The words of a text, with zeros behind them. (The closure of `flat_map` would need a type that has no name.)
 pub fn words(alloc: Global, text: &[u8]) -> Result<Vec<u64>, AllocError> {
-    let mut all = Vec::new(alloc);
+    let mut all = vec![in alloc; 0; WORDS]?;
+    let mut places = all.iter_mut();
     for line in text.split(|b| *b == b'\n') {
         for w in without_comment(line).split(|b| digit(*b).is_none()) {
             if !w.is_empty() {
-                all.push(word(w))?;
+                if let Some(place) = places.next() {
+                    *place = word(w);
+                }
             }
         }
     }
-    all.resize(WORDS, 0)?;
     Ok(all)
 }
 
@@ -115,13 +116,27 @@ impl<'a> Column<'a> {
         number_of(self.entry(i))
     }
 
-    // These entries, each as an f64, and as a number of 32 bits.
-    pub fn floats(self, alloc: Global, part: Range<usize>) -> Result<Vec<f64>, AllocError> {
-        part.map(|i| Ok(self.float_at(i))).try_collect(alloc)
+    // Its entries, fewer where the words end before.
+    fn given(self) -> &'a [u64] {
+        let entries = self.entries();
+        entries.get(..self.length()).unwrap_or(entries)
     }
 
-    pub fn numbers(self, alloc: Global, part: Range<usize>) -> Result<Vec<u32>, AllocError> {
-        part.map(|i| Ok(self.number_at(i))).try_collect(alloc)
+    // Its first n entries, zeros where it has fewer, each as an f64, and as a number of 32 bits.
+    pub fn floats(self, alloc: Global, n: usize) -> Result<Vec<f64>, AllocError> {
+        let mut all = vec![in alloc; 0.0; n]?;
+        for (x, word) in all.iter_mut().zip(self.given()) {
+            *x = float_of(*word);
+        }
+        Ok(all)
+    }
+
+    pub fn numbers(self, alloc: Global, n: usize) -> Result<Vec<u32>, AllocError> {
+        let mut all = vec![in alloc; 0; n]?;
+        for (x, word) in all.iter_mut().zip(self.given()) {
+            *x = number_of(*word);
+        }
+        Ok(all)
     }
 }
 

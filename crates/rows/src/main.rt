@@ -8,11 +8,11 @@ use path::columns::PathColumnsMut;
 use path::link_point::LinkPoint;
 use path::path_tpc::PathTpc;
 use path_clear::clear::{ClearAnswer, clear};
-use show::Whole;
+use show::{Sink, Whole};
 use si::{Length, Velocity};
 use speed::insert_speed::insert_speed;
 use speed::speed_limit::SpeedLimit;
-use std::{fmt, io};
+use std::fmt;
 
 // The numbers of a column, each behind a blank.
 #[derive(Clone, Copy)]
@@ -61,15 +61,7 @@ fn lay(col: &mut [f64], n: usize, l: SpeedLimit) -> usize {
 }
 
 // One row of the S rows; the count of points afterwards.
-fn s_row(
-    rt: &impl Print,
-    name: &str,
-    col: &mut [f64],
-    n: usize,
-    from: f64,
-    to: f64,
-    at: f64,
-) -> io::Result<usize> {
+fn s_row(out: Sink, name: &str, col: &mut [f64], n: usize, from: f64, to: f64, at: f64) -> usize {
     let m = lay(
         &mut *col,
         n,
@@ -79,8 +71,8 @@ fn s_row(
             speed: Velocity(at),
         },
     );
-    println!(rt; "{name}{}", Points(first(col, m, 2)))?;
-    Ok(m)
+    write!(out, "{name}{}\n", Points(first(col, m, 2)));
+    m
 }
 
 // The one point (0,30), in a column of the bound that the rows need.
@@ -99,21 +91,20 @@ fn two_points() -> [f64; 16] {
 }
 
 // A row that starts from (0,30),(100,20).
-fn from_two(rt: &impl Print, name: &str, from: f64, to: f64, at: f64) -> io::Result<usize> {
-    s_row(rt, name, &mut two_points(), 2, from, to, at)
+fn from_two(out: Sink, name: &str, from: f64, to: f64, at: f64) {
+    s_row(out, name, &mut two_points(), 2, from, to, at);
 }
 
-fn s_rows(rt: &impl Print) -> io::Result<()> {
+fn s_rows(out: Sink) {
     let mut a = one_point();
-    let n = s_row(rt, "S1", &mut a, 1, 20.0, 40.0, 15.0)?;
-    s_row(rt, "S2", &mut a, n, 40.0, 60.0, 15.0)?;
-    s_row(rt, "S3", &mut one_point(), 1, 0.0, 10.0, 20.0)?;
-    from_two(rt, "S4", 20.0, 40.0, 15.0)?;
-    from_two(rt, "S5", 20.0, 100.0, 15.0)?;
-    from_two(rt, "S6", 50.0, 150.0, 25.0)?;
-    from_two(rt, "S7", 50.0, 150.0, 10.0)?;
-    s_row(rt, "S8", &mut one_point(), 1, 5.0, 9.0, -12.0)?;
-    Ok(())
+    let n = s_row(out, "S1", &mut a, 1, 20.0, 40.0, 15.0);
+    s_row(out, "S2", &mut a, n, 40.0, 60.0, 15.0);
+    s_row(out, "S3", &mut one_point(), 1, 0.0, 10.0, 20.0);
+    from_two(out, "S4", 20.0, 40.0, 15.0);
+    from_two(out, "S5", 20.0, 100.0, 15.0);
+    from_two(out, "S6", 50.0, 150.0, 25.0);
+    from_two(out, "S7", 50.0, 150.0, 10.0);
+    s_row(out, "S8", &mut one_point(), 1, 5.0, 9.0, -12.0);
 }
 
 // The number of a refusal; nothing for "done".
@@ -145,7 +136,7 @@ impl fmt::Display for Gone {
 }
 
 // One row of the T rows: links 1 and 2 from 0 to 100 and from there to 250, each with one flat grade and curve record, and n speed points.
-fn t_row(rt: &impl Print, name: &str, mut speeds: [f64; 16], n: usize, x: f64) -> io::Result<()> {
+fn t_row(out: Sink, name: &str, mut speeds: [f64; 16], n: usize, x: f64) {
     let mut offsets: [f64; 3] = [0.0, 100.0, 250.0];
     let mut numbers: [u32; 12] = [1, 1, 0, 1, 1, 1, 0, 2, 0, 0, 0, 2];
     let mut grades: [f64; 9] = [0.0, 0.0, 0.0, 100.0, 0.0, 0.0, 250.0, 0.0, 0.0];
@@ -173,11 +164,12 @@ fn t_row(rt: &impl Print, name: &str, mut speeds: [f64; 16], n: usize, x: f64) -
     let left = r.outcome.path;
     let points = Points(first(&speeds, left.speed_count, 2));
     let links = Numbers(first(&offsets, left.link_count, 1));
-    println!(rt;
-        "{name}{}{points}; links{links}{}",
+    write!(
+        out,
+        "{name}{}{points}; links{links}{}\n",
         Refused(r.outcome.answer),
         Gone(r.dropped)
-    )
+    );
 }
 
 // The points (0,30), (50,20) and (200,30).
@@ -190,11 +182,11 @@ fn three_points() -> [f64; 16] {
     a
 }
 
-fn t_rows(rt: &impl Print) -> io::Result<()> {
-    t_row(rt, "T1", three_points(), 3, 120.0)?;
-    t_row(rt, "T2", three_points(), 3, 100.0)?;
-    t_row(rt, "T3", two_points(), 2, 120.0)?;
-    t_row(rt, "T4", two_points(), 2, 251.0)
+fn t_rows(out: Sink) {
+    t_row(out, "T1", three_points(), 3, 120.0);
+    t_row(out, "T2", three_points(), 3, 100.0);
+    t_row(out, "T3", two_points(), 2, 120.0);
+    t_row(out, "T4", two_points(), 2, 251.0);
 }
 
 // What a lookup answers: the index, or the number of the refusal.
@@ -211,25 +203,27 @@ impl fmt::Display for Told {
 }
 
 // One row of the L rows, over records at 0, 100 and 250.
-fn l_row(rt: &impl Print, name: &str, offset: f64, hint: usize, dir: Dir) -> io::Result<()> {
+fn l_row(out: Sink, name: &str, offset: f64, hint: usize, dir: Dir) {
     let list = [0.0, 0.0, 0.0, 100.0, 0.0, 0.0, 250.0, 0.0, 0.0];
-    println!(rt;
-        "{name}{}",
+    write!(
+        out,
+        "{name}{}\n",
         Told(calc_idx(&list, 3, Length(offset), hint, dir))
-    )
+    );
 }
 
-fn l_rows(rt: &impl Print) -> io::Result<()> {
-    l_row(rt, "L1", 100.0, 0, Dir::Fwd)?;
-    l_row(rt, "L2", 101.0, 0, Dir::Fwd)?;
-    l_row(rt, "L3", 100.0, 2, Dir::Bwd)?;
-    l_row(rt, "L4", 50.0, 1, Dir::Fwd)?;
-    l_row(rt, "L5", 100.0, 2, Dir::Fwd)?;
-    l_row(rt, "L6", 251.0, 0, Dir::Fwd)
+fn l_rows(out: Sink) {
+    l_row(out, "L1", 100.0, 0, Dir::Fwd);
+    l_row(out, "L2", 101.0, 0, Dir::Fwd);
+    l_row(out, "L3", 100.0, 2, Dir::Bwd);
+    l_row(out, "L4", 50.0, 1, Dir::Fwd);
+    l_row(out, "L5", 100.0, 2, Dir::Fwd);
+    l_row(out, "L6", 251.0, 0, Dir::Fwd);
 }
 
-fn main(rt: HostRuntime) -> io::Result<()> {
-    s_rows(&rt)?;
-    t_rows(&rt)?;
-    l_rows(&rt)
+fn main(rt: HostRuntime) {
+    let out = Sink::Output(rt.stdout());
+    s_rows(out);
+    t_rows(out);
+    l_rows(out);
 }
