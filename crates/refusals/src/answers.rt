@@ -1,6 +1,7 @@
 // Answers as they are printed.
 use crate::columns::Number;
 use crate::paths::Trimmed;
+use crate::straps::Walk;
 use crate::tables::Judged;
 use answer::Refusal;
 use resistance::point::{Point, PointForce};
@@ -139,19 +140,21 @@ impl Reply {
 
 // What a row prints behind its name.
 #[derive(Drop)]
-pub enum Shown {
+pub enum Shown<'a> {
     Reply(Reply),
     Trimmed(Trimmed),
     Asked(Judged),
     Edited([Judged; 3]),
+    Walk(Walk<'a>),
 }
 
-impl fmt::Display for Shown {
+impl fmt::Display for Shown<'_> {
     fn fmt<W: fmt::Write>(&self, f: &mut fmt::Formatter<W>) -> fmt::Result {
         match self {
             Shown::Reply(r) => write!(f, "{r}"),
             Shown::Trimmed(t) => write!(f, "{t}"),
             Shown::Asked(j) => write!(f, ":{j}"),
+            Shown::Walk(w) => write!(f, "{w}"),
             Shown::Edited([i, j, k]) => write!(f, ":{i}{j}{k}"),
         }
     }

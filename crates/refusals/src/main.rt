@@ -12,16 +12,17 @@ mod tables; // questions 4 to 7 of a link table
 
 use answers::Shown;
 use columns::Columns;
-use fields::{BLANKS, Fault, words};
+use fields::{Fault, words};
+use show::Sink;
 use std::alloc::{AllocError, Global};
-use std::io;
+use std::io::Read as _;
 
 // What a line that can be read is.
 #[derive(Drop)]
 enum Line<'a> {
     Empty,
     Column,
-    Row(&'a str, Shown),
+    Row(&'a [u8], Shown<'a>),
 }
 
 // How many bytes a text may not have.
@@ -35,108 +36,134 @@ struct Seen {
 }
 
 // What a call answers.
-fn run_call(alloc: Global, columns: &Columns, call: &str, args: &[&str]) -> Result<Shown, Fault> {
-    match call {
-        "calc_idx" => searches::calc_idx(columns, args).map(Shown::Reply),
-        "position" => paths::position(alloc, columns, args).map(Shown::Reply),
-        "posted" => paths::posted(alloc, columns, args).map(Shown::Reply),
-        "trims" => paths::trims(alloc, columns, args).map(Shown::Trimmed),
-        "ask" => tables::ask(alloc, columns, args).map(Shown::Asked),
-        "edit" => tables::edit(alloc, columns, args).map(Shown::Edited),
-        _ if call.starts_with("Point::") => points::answer(columns, call, args).map(Shown::Reply),
-        _ => straps::answer(columns, call, args).map(Shown::Reply),
+fn run_call<'a>(
+    alloc: Global,
+    columns: &'a Columns,
+    call: &[u8],
+    args: &[&[u8]],
+) -> Result<Shown<'a>, Fault> {
+    Ok(match call {
+        b"calc_idx" => Shown::Reply(searches::calc_idx(columns, args)?),
+        b"position" => Shown::Reply(paths::position(alloc, columns, args)?),
+        b"posted" => Shown::Reply(paths::posted(alloc, columns, args)?),
+        b"trims" => Shown::Trimmed(paths::trims(alloc, columns, args)?),
+        b"ask" => Shown::Asked(tables::ask(alloc, columns, args)?),
+        b"edit" => Shown::Edited(tables::edit(alloc, columns, args)?),
+        b"walk" => Shown::Walk(straps::walk_of(columns, args)?),
+        _ if call.starts_with(b"Point::") => Shown::Reply(points::answer(columns, call, args)?),
+        _ => Shown::Reply(straps::answer(columns, call, args)?),
+    })
+}
+
+// The name of the row that is the first line of a text, behind word k. As before: of a line without a line end it lacks the last byte.
+fn name_of(text: &[u8], k: usize) -> &[u8] {
+    let line = fields::first_line(text);
+    match fields::behind(line, k) {
+        [name @ .., _] if line.len() == text.len() => name,
+        name => name,
     }
 }
 
-// What stands before a colon and behind it, where it is a word of its own.
-fn parts_at(line: &str, colon: usize) -> Option<(&str, &str)> {
-    let (call, rest) = line.split_at_checked(colon)?;
-    let name = rest.strip_prefix(':')?;
-    let ends = name.is_empty() || name.starts_with('#') || name.starts_with(BLANKS);
-    (ends && call.ends_with(BLANKS)).then_some((call, name))
-}
+// The most arguments of a call that takes a certain number of them: those of a walk.
+const ARGUMENTS: usize = 10;
 
-// What stands before the first colon that is a word of its own, and behind it.
-fn call_and_name(line: &str) -> Option<(&str, &str)> {
-    line.match_indices(':')
-        .find_map(|(colon, _)| parts_at(line, colon))
+// A row of such a call: the colon is the one behind its arguments, since a column may be named by a colon too.
+fn row_of<'a>(
+    alloc: Global,
+    columns: &'a Columns,
+    text: &'a [u8],
+    call: &[u8],
+    args: &[&[u8]],
+) -> Result<Line<'a>, Fault> {
+    for (k, w) in args.iter().enumerate().take(ARGUMENTS + 1) {
+        if fields::is_colon(w) {
+            match run_call(alloc, columns, call, args.get(..k).unwrap_or(&[])) {
+                Ok(shown) => return Ok(Line::Row(name_of(text, k + 1), shown)),
+                Err(Fault::Memory(e)) => return Err(Fault::Memory(e)),
+                Err(Fault::Unreadable) => {}
+            }
+        }
+    }
+    Err(Fault::Unreadable)
 }
 
 // A row, CALL ARGUMENT .. : NAME. The name goes to the line's end.
-fn row<'a>(alloc: Global, columns: &Columns, line: &'a str) -> Result<Line<'a>, Fault> {
-    let (call, name) = call_and_name(line).ok_or(Fault::Unreadable)?;
-    if call.contains('#') {
-        return Err(Fault::Unreadable);
-    }
-    let args = words(alloc, call)?;
-    match args.as_slice() {
+fn row<'a>(
+    alloc: Global,
+    columns: &'a Columns,
+    text: &'a [u8],
+    line: &[&[u8]],
+) -> Result<Line<'a>, Fault> {
+    match line {
         [] => Err(Fault::Unreadable),
-        [call, args @ ..] => Ok(Line::Row(
-            name.trim_start_matches(BLANKS),
-            run_call(alloc, columns, call, args)?,
-        )),
+        [call @ (b"ask" | b"trims"), ..] => {
+            let (args, colon) = fields::up_to_colon(alloc, text)?;
+            let shown = run_call(alloc, columns, call, &args)?;
+            Ok(Line::Row(name_of(text, colon), shown))
+        }
+        [call, args @ ..] => row_of(alloc, columns, text, call, args),
     }
 }
 
-// The first of these lines; where it sets a column, the lines behind it may continue it.
-fn read<'a>(alloc: Global, columns: &mut Columns, lines: &[&'a str]) -> Result<Line<'a>, Fault> {
-    let Some((line, behind)) = lines.split_first() else {
-        return Ok(Line::Empty);
-    };
-    let first = words(alloc, line)?;
+// The first line of a text; where it sets a column, the lines behind it may continue it.
+fn read<'a>(alloc: Global, columns: &'a mut Columns, text: &'a [u8]) -> Result<Line<'a>, Fault> {
+    let first = words(alloc, fields::first_line(text))?;
     match first.as_slice() {
         [] => Ok(Line::Empty),
         [kind, name, numbers @ ..] if columns::is_kind(kind) => {
-            let all = columns::continued(alloc, numbers, behind)?;
-            columns.set(alloc, kind, name, &all)?;
+            let all = columns::continued(alloc, numbers, text)?;
+            columns.set(alloc, kind, name, numbers, &all)?;
             Ok(Line::Column)
         }
-        _ => row(alloc, columns, line),
+        line => row(alloc, columns, text, line),
     }
 }
 
-// Every line of a text; of CRLF the CR stays, as a blank or at the end of a name.
-fn lines_of(alloc: Global, text: &str) -> Result<Vec<&str>, AllocError> {
-    text.split_terminator('\n').map(Ok).try_collect(alloc)
-}
-
-// One line after another, and how many rows there were.
-fn run(rt: &impl Print, alloc: Global, text: &str) -> io::Result<Seen> {
-    let lines = lines_of(alloc, text)?;
-    let mut columns = Columns::new(alloc);
+// One line after another, and how many rows there were. Of CRLF the CR stays, as a blank or at the end of a name. A name is written before the answer is made.
+fn run(out: Sink, alloc: Global, text: &[u8]) -> Result<Seen, AllocError> {
+    let mut columns = Columns::new(alloc, text)?;
     let mut seen = Seen { rows: 0, faults: 0 };
     let mut open = false;
-    for i in 0..lines.len() {
-        if open && fields::continues(lines[i]) {
+    let mut rest = text;
+    for (i, line) in text.split(|b| *b == b'\n').enumerate() {
+        let here = rest;
+        rest = here.get(line.len() + 1..).unwrap_or(&[]);
+        if open && fields::continues(line) {
             continue;
         }
-        let line = read(alloc, &mut columns, &lines[i..]);
-        open = matches!(line, Ok(Line::Column));
-        match line {
+        let read = read(alloc, &mut columns, here);
+        open = matches!(read, Ok(Line::Column));
+        match read {
             Ok(Line::Row(name, shown)) => {
-                println!(rt; "{name}{shown}")?;
+                out.write_all(name);
+                write!(out, "{shown}\n");
                 seen.rows = seen.rows.saturating_add(1);
             }
             Err(Fault::Unreadable) => {
-                println!(rt; "cannot be read: line {}", i + 1)?;
+                write!(out, "cannot be read: line {}\n", i.saturating_add(1));
                 seen.faults = seen.faults.saturating_add(1);
             }
-            Err(Fault::Memory(e)) => return Err(io::Error::from(e)),
+            Err(Fault::Memory(e)) => return Err(e),
             Ok(_) => {}
         }
     }
     Ok(seen)
 }
 
-fn main(rt: HostRuntime) -> io::Result<()> {
+fn main(rt: HostRuntime) -> Result<(), AllocError> {
     let alloc = rt.alloc();
-    let text = io::read_to_string(alloc, rt.reader())?;
+    let out = Sink::Output(rt.stdout());
+    let mut text = Vec::with_capacity(alloc, TOO_LONG)?;
+    let _ = rt.reader().take(TOO_LONG as u64).read_to_end(&mut text); // a read that fails ends the text
     if text.len() >= TOO_LONG {
-        return println!(rt; "the text is too long");
+        write!(out, "the text is too long\n");
+        return Ok(());
     }
-    let seen = run(&rt, alloc, &text)?;
-    println!(rt;
-        "rows run: {}; lines that cannot be read: {}",
+    let seen = run(out, alloc, &text)?;
+    write!(
+        out,
+        "rows run: {}; lines that cannot be read: {}\n",
         seen.rows, seen.faults
-    )
+    );
+    Ok(())
 }

@@ -4,7 +4,7 @@ use crate::columns::Columns;
 use crate::fields::{Fault, count, dir, length};
 
 // calc_idx LIST RECORDS OFFSET HINT DIRECTION
-pub fn calc_idx(columns: &Columns, args: &[&str]) -> Result<Reply, Fault> {
+pub fn calc_idx(columns: &Columns, args: &[&[u8]]) -> Result<Reply, Fault> {
     let [list, records, offset, hint, to] = args else {
         return Err(Fault::Unreadable);
     };

@@ -1,5 +1,5 @@
 // Questions 4 to 7 of a link table, put to a list in their order: the first no is printed with its place.
-use crate::columns::{Columns, Number};
+use crate::columns::{Columns, Number, Sets};
 use crate::fields::{Fault, numbers, to_number};
 use answer::{Question, Refusal};
 use link::network::Network;
@@ -25,30 +25,30 @@ impl fmt::Display for Judged {
 #[derive(Drop)]
 struct Edited<'a> {
     columns: &'a Columns,
-    own: Columns,
+    own: Sets,
 }
 
 impl Edited<'_> {
-    fn column<T: Number>(&self, name: &str) -> &[T] {
-        self.own
-            .column(name)
-            .or_else(|_| self.columns.column(name))
-            .unwrap_or(&[])
+    fn column<T: Number>(&self, name: &[u8]) -> &[T] {
+        match self.own.column(name) {
+            Some(col) => col,
+            None => self.columns.column(name).unwrap_or(&[]),
+        }
     }
 
     // The table as it is lent.
     fn network(&self) -> Network<'_> {
         Network {
-            links: self.column("links"),
-            lengths: self.column("lengths"),
-            sets: self.column("sets"),
-            elevs: self.column("elevs"),
-            headings: self.column("headings"),
-            limits: self.column("limits"),
-            codes: self.column("codes"),
-            values: self.column("values"),
-            powers: self.column("link_powers"),
-            districts: self.column("link_districts"),
+            links: self.column(b"links"),
+            lengths: self.column(b"lengths"),
+            sets: self.column(b"sets"),
+            elevs: self.column(b"elevs"),
+            headings: self.column(b"headings"),
+            limits: self.column(b"limits"),
+            codes: self.column(b"codes"),
+            values: self.column(b"values"),
+            powers: self.column(b"link_powers"),
+            districts: self.column(b"link_districts"),
         }
     }
 
@@ -64,9 +64,9 @@ impl Edited<'_> {
 }
 
 // ask LINK ..: the list, over the table as it stands.
-pub fn ask(alloc: Global, columns: &Columns, args: &[&str]) -> Result<Judged, Fault> {
+pub fn ask(alloc: Global, columns: &Columns, args: &[&[u8]]) -> Result<Judged, Fault> {
     let list = numbers::<u32>(alloc, args)?;
-    let own = Columns::new(alloc);
+    let own = Sets::new(alloc);
     Ok(Judged(Edited { columns, own }.asked(&list)))
 }
 
@@ -74,17 +74,17 @@ pub fn ask(alloc: Global, columns: &Columns, args: &[&str]) -> Result<Judged, Fa
 fn ask_with(
     alloc: Global,
     columns: &Columns,
-    name: &str,
+    name: &[u8],
     k: usize,
-    value: &str,
+    value: &[u8],
 ) -> Result<Judged, Fault> {
-    let list = columns.column("list").unwrap_or(&[]);
+    let list = columns.column(b"list").unwrap_or(&[]);
     let own = columns.edited(alloc, name, k, value)?;
     Ok(Judged(Edited { columns, own }.asked(list)))
 }
 
 // edit COLUMN ENTRY STEP VALUE: at links 1, 2 and 3 in turn, from the entry of link 0 so many entries further for each.
-pub fn edit(alloc: Global, columns: &Columns, args: &[&str]) -> Result<[Judged; 3], Fault> {
+pub fn edit(alloc: Global, columns: &Columns, args: &[&[u8]]) -> Result<[Judged; 3], Fault> {
     let [name, entry, step, value] = args else {
         return Err(Fault::Unreadable);
     };
