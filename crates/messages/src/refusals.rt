@@ -136,6 +136,31 @@ fn link_before(list: &[u32], numbers: &[u32], p: PathTpc, k: usize) -> u32 {
     column::record_at::<column::Four>(numbers, p.link_count - 1).3
 }
 
+// What is said of link n, after `prev`, by one of the questions 5 to 8.
+fn link_refused(
+    err: Sink,
+    question: Question,
+    link: Named,
+    n: u32,
+    prev: u32,
+    train: TrainParams,
+    network: &Network,
+) {
+    match question {
+        Question::Follows => not_following(err, link, n, prev, network),
+        Question::Formed => not_formed(err, link, n, network),
+        Question::HasSet => write!(
+            err,
+            "{link} has no set for {} trains and none for all",
+            type_word(train.train_type)
+        ),
+        _ => write!(
+            err,
+            "{link}: with it a figure becomes too large to be a number, or its end is not beyond its beginning"
+        ),
+    }
+}
+
 // A call that may change the path and was refused: the whole reason, as one line. x: its offset; list: its links; p and columns: the path.
 pub fn change_refused(
     err: Sink,
@@ -152,28 +177,17 @@ pub fn change_refused(
     let call = line.call;
     let place = refusal.place;
     let n = link_at(call, list, columns.numbers, place);
-    // Only what is said of a link looks for its line.
-    let text = line.text;
     match refusal.question {
         Question::Finite if call == Call::Clear => write!(err, "{}", offset_wrong(x)),
         Question::Finite => write!(err, "{}", train_wrong(train)),
         Question::InTable => absent(err, call, n),
-        Question::Follows => {
-            let prev = link_before(list, columns.numbers, p, place);
-            not_following(err, Named::new(text, n), n, prev, network);
-        }
-        Question::Formed => not_formed(err, Named::new(text, n), n, network),
-        Question::HasSet => write!(
-            err,
-            "{} has no set for {} trains and none for all",
-            Named::new(text, n),
-            type_word(train.train_type)
-        ),
-        Question::Results => write!(
-            err,
-            "{}: with it a figure becomes too large to be a number, or its end is not beyond its beginning",
-            Named::new(text, n)
-        ),
+        // Only here is the link's line looked for.
+        question @ (Question::Follows | Question::Formed | Question::HasSet | Question::Results) =>
+            {
+                let link = Named::new(line.text, n);
+                let prev = link_before(list, columns.numbers, p, place);
+                link_refused(err, question, link, n, prev, train, network);
+            }
         Question::InRange => reach(err, p, columns.offsets),
         question => {
             let joined = if call == Call::Extend { list.len() } else { 0 };
