@@ -92,6 +92,9 @@ const COLUMNS: usize = 128;
 
 pub const NUMBERS: usize = 256;
 
+// The most numbers that are read of a column's own line: a path's counts.
+const COUNTS: usize = 5;
+
 // The words of the column that the first line of a text sets: its own, where there are any, and those of the lines that continue it, up to one without a word.
 pub fn continued<'a>(
     alloc: Global,
@@ -131,7 +134,11 @@ fn column_of<T: Number + Drop>(
             .map_while(|w| T::read(w))
             .take(NUMBERS)
             .collect(alloc)?,
-        line: own.iter().map(|w| or_zero::<T>(w)).collect(alloc)?,
+        line: own
+            .iter()
+            .map(|w| or_zero::<T>(w))
+            .take(COUNTS)
+            .collect(alloc)?,
     })
 }
 
@@ -229,7 +236,7 @@ impl Columns {
         Ok(())
     }
 
-    // As before: until all columns are set, what the first line sets wins, also where that line cannot be read.
+    // Until all columns are set, what the first line sets wins, also where that line cannot be read.
     fn find<T: Number>(&self, name: &[u8]) -> Result<&Column<T>, Fault> {
         let first = T::named(&self.first).get(name);
         let col = match first {
@@ -244,7 +251,7 @@ impl Columns {
         Ok(self.find(name)?.all.as_slice())
     }
 
-    // What the line that sets it has of a column. As before: a train and the counts are read there, not in the lines that continue it.
+    // What the line that sets it has of a column: a train and the counts are read there, not in the lines that continue it.
     pub fn line<T: Number>(&self, name: &[u8]) -> Result<&[T], Fault> {
         Ok(self.find(name)?.line.as_slice())
     }
@@ -259,7 +266,7 @@ impl Columns {
         self.find::<T>(name).is_ok() && T::read(w).is_some()
     }
 
-    // The columns of a name alone, with entry k another. As before: of both kinds where both are set, in wholes a 0 for what is no whole number.
+    // The columns of a name alone, with entry k another: of both kinds where both are set, in wholes a 0 for what is no whole number.
     pub fn edited(&self, alloc: Global, name: &[u8], k: usize, w: &[u8]) -> Result<Sets, Fault> {
         if !(self.holds::<f64>(name, w) || self.holds::<u32>(name, w)) {
             return Err(Fault::Unreadable);

@@ -33,6 +33,11 @@ fn uncommented(line: &[u8]) -> &[u8] {
     line.split(|b| *b == b'#').next().unwrap_or(line)
 }
 
+// Whether a line is empty or a comment from its first byte on.
+pub fn is_bare(line: &[u8]) -> bool {
+    matches!(line, [] | [b'#', ..])
+}
+
 // The words of a line.
 pub fn words(alloc: Global, line: &[u8]) -> Result<Vec<&[u8]>, AllocError> {
     uncommented(line)
@@ -70,7 +75,7 @@ pub fn behind(line: &[u8], k: usize) -> &[u8] {
     rest
 }
 
-// The arguments of a call that takes any number of them, and which word of its line the colon is; the row is the text's first line. As before: the colon may
+// The arguments of a call that takes any number of them, and which word of its line the colon is; the row is the text's first line. The colon may
 // stand in a line that continues the row's.
 pub fn up_to_colon<'a>(alloc: Global, text: &'a [u8]) -> Result<(Vec<&'a [u8]>, usize), Fault> {
     let mut args = Vec::new(alloc);

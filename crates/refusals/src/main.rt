@@ -55,7 +55,7 @@ fn run_call<'a>(
     })
 }
 
-// The name of the row that is the first line of a text, behind word k. As before: of a line without a line end it lacks the last byte.
+// The name of the row that is the first line of a text, behind word k; of a line without a line end it lacks the last byte.
 fn name_of(text: &[u8], k: usize) -> &[u8] {
     let line = fields::first_line(text);
     match fields::behind(line, k) {
@@ -106,8 +106,13 @@ fn row<'a>(
 }
 
 // The first line of a text; where it sets a column, the lines behind it may continue it.
-fn read<'a>(alloc: Global, columns: &'a mut Columns, text: &'a [u8]) -> Result<Line<'a>, Fault> {
-    let first = words(alloc, fields::first_line(text))?;
+fn read<'a>(
+    alloc: Global,
+    columns: &'a mut Columns,
+    text: &'a [u8],
+    line: &'a [u8],
+) -> Result<Line<'a>, Fault> {
+    let first = words(alloc, line)?;
     match first.as_slice() {
         [] => Ok(Line::Empty),
         [kind, name, numbers @ ..] if columns::is_kind(kind) => {
@@ -128,10 +133,14 @@ fn run(out: Sink, alloc: Global, text: &[u8]) -> Result<Seen, AllocError> {
     for (i, line) in text.split(|b| *b == b'\n').enumerate() {
         let here = rest;
         rest = here.get(line.len() + 1..).unwrap_or(&[]);
+        if fields::is_bare(line) {
+            open = false;
+            continue;
+        }
         if open && fields::continues(line) {
             continue;
         }
-        let read = read(alloc, &mut columns, here);
+        let read = read(alloc, &mut columns, here, line);
         open = matches!(read, Ok(Line::Column));
         match read {
             Ok(Line::Row(name, shown)) => {
