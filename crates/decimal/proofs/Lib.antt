@@ -1,5 +1,6 @@
 -- Laws of the definitions.
 pub mod Texts
+pub mod Hex
 pub mod DigitSteps
 pub mod Quotient
 pub mod Patterns

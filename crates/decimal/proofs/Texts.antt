@@ -1,12 +1,12 @@
 -- A text from an index on: a result that is carried along, and the number that digits write.
-use Rattle.std.proofs.Common.{◌≡◌, ℕ, ◌+◌, ◌*◌, ◌^◌, ◌<◌, ◌≤◌, Bool, true, false, cond, ◌&&◌, nat_lt, List, ◌∷◌, length, get_or, drop, sym, refl, ap, ◌∙◌, lt_of_lt_of_le, le_trans, mul-le-mul_left, mul-suc, add-one, arith, lit≤, le-ltb, ltb-true, Some, None, Option}
+use Rattle.std.proofs.Common.{◌≡◌, ℕ, ◌+◌, ◌*◌, ◌^◌, ◌<◌, ◌≤◌, Bool, true, false, cond, ◌&&◌, nat_lt, List, ◌∷◌, length, get_or, drop, sym, refl, ap, ◌∙◌, lt_of_lt_of_le, le_trans, mul-le-mul_left, mul-suc, add-one, arith, lit≤, ltb-true, Some, None, Option, is_some}
 use native.Mathlib.Nat.{pow-succ', pow-le-pow_left, pow-le-pow_right}
 use Rattle.std.specs.Char.{digit_value}
 use Rattle.std.specs.Option.{option_and_then, option_map}
 use Rattle.std.proofs.lemmas.Bool.{and_parts}
 use Rattle.std.proofs.lemmas.List.{drop_more}
 use Rattle.std.proofs.lemmas.Option.{cond_some}
-use Rattle.decimal.specs.Digits.{hex_value, digit, all_digits, whole_from, number_from}
+use Rattle.decimal.specs.Digits.{digit, each_digit, value_from, number_from}
 use Rattle.decimal.specs.Decimal.{step, digits_from}
 
 -- ---- a result that is carried along, as long as each byte has a next one
@@ -31,25 +31,22 @@ digits-carried = record { cons = λ d b l. refl }
 abbrev pub next_number : ℕ → ℕ → ℕ → Option ℕ
 next_number base n b = option_map (λ d. base * n + d) (digit base b)
 
-by-digit : (t u : Bool) (v : ℕ) (f g : ℕ → ℕ) → cond (t && u) (Some (g (f v))) None ≡ option_and_then (λ n. cond u (Some (g n)) None) (option_map f (cond t (Some v) None))
+pub by-digit : (t u : Bool) (v : ℕ) (f g : ℕ → ℕ) → cond (t && u) (Some (g (f v))) None ≡ option_and_then (λ n. cond u (Some (g n)) None) (option_map f (cond t (Some v) None))
 by-digit true u v f g = refl
 by-digit false u v f g = refl
 
--- to a base of at most 16 a digit is a byte whose hex value is below the base
-digit-hex : (base b : ℕ) → base ≤ 16 → digit base b ≡ cond (nat_lt (hex_value b) base) (Some (hex_value b)) None
-unfolding hex_value
-digit-hex base b h = go (nat_lt (digit_value b) 16)
-  where
-    go : (t : Bool) → cond (t && nat_lt (digit_value b) base) (Some (digit_value b)) None ≡ cond (nat_lt (cond t (digit_value b) 16) base) (Some (cond t (digit_value b) 16)) None
-    go true = refl
-    go false = ap (λ (t : Bool). cond t (Some 16) None) (sym (le-ltb 16 base h))
+pub is_some_when : (t : Bool) (v : ℕ) → is_some (cond t (Some v) None) ≡ t
+is_some_when true v = refl
+is_some_when false v = refl
 
-pub number-carried : (base : ℕ) → base ≤ 16 → Carried (number_from base) (next_number base)
-unfolding all_digits whole_from
-number-carried base h = record {
+pub number-carried : (base : ℕ) → Carried (number_from base) (next_number base)
+unfolding each_digit value_from
+number-carried base = record {
   cons = λ n b l.
-      by-digit (nat_lt (hex_value b) base) (all_digits base l) (hex_value b) (λ d. base * n + d) (λ m. whole_from base m l)
-      ∙ ap (λ (d : Option ℕ). option_and_then (λ m. number_from base m l) (option_map (λ d. base * n + d) d)) (sym (digit-hex base b h));
+      let t = nat_lt (digit_value b) 16 && nat_lt (digit_value b) base in
+      let f = λ (d : ℕ). base * n + d in
+      let g = λ (m : ℕ). value_from base m l in
+      ap (λ (s : Bool). cond (s && each_digit base l) (Some (g (f (digit_value b)))) None) (is_some_when t (digit_value b)) ∙ by-digit t (each_digit base l) (digit_value b) f g;
 }
 
 pub digit-lt : (base b d : ℕ) → digit base b ≡ Some d → d < base

@@ -17,7 +17,7 @@ fn of_bits(bits: u64) -> f64
 }
 
 // The f64 whose bits 16 hex digits write; none for anything else.
-#[tactic(auto, unfolding(crate::specs::Number::of_hex))]
+#[tactic(auto, unfolding(crate::specs::Number::of_hex), using(crate::proofs::Hex::digits_sixteen, crate::proofs::Hex::value_sixteen))]
 fn of_hex(digits: &[u8]) -> Option<f64>
     ensures { result ≡ spec.of_hex digits.now }
 {

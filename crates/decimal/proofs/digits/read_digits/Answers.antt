@@ -3,7 +3,7 @@ use Rattle.std.proofs.Common.{ℕ, ◌+◌, ◌*◌, get_or, sym, ap, ◌∙◌,
 use native.Mathlib.Nat.{pow-zero}
 use Rattle.std.specs.Option.{option_map}
 use Rattle.std.proofs.lemmas.List.{at_drop_all}
-use Rattle.decimal.specs.Digits.{all_digits, whole_from, number_from}
+use Rattle.decimal.specs.Digits.{each_digit, value_from, number_from}
 use Rattle.decimal.proofs.Texts.{carried-next, carried-none, number-carried, digit-lt, one_more, few-digits}
 use Rattle.decimal.proofs.digits.read_digits.Goals as goal
 
@@ -28,13 +28,13 @@ loop-b-preserved c =
     let n = c.loop-b.n in
     let i = c.loop-b.b-index in
     let d = c.in_ok-n.field-0 in
-    (one_more base n i c.loop-b.invariant.0 d (digit-lt base (get_or text i 0) d e), carried-next (number-carried base c.requires.base_bound) text i n c.loop-b-test.true (base * n + d) (ap (option_map (λ (v : ℕ). base * n + v)) e) ∙ c.loop-b.invariant.1)
+    (one_more base n i c.loop-b.invariant.0 d (digit-lt base (get_or text i 0) d e), carried-next (number-carried base) text i n c.loop-b-test.true (base * n + d) (ap (option_map (λ (v : ℕ). base * n + v)) e) ∙ c.loop-b.invariant.1)
 
 pub returns-in_err-n : goal.returns-in_err-n
 returns-in_err-n c =
     let e = sym c.digit.ensures ∙ c.in_err-n.was in
-    rw c.from_residual.ensures (carried-none (number-carried c.args.base c.requires.base_bound) _ _ _ c.loop-b-test.true (ap (option_map (λ (d : ℕ). c.args.base * c.loop-b.n + d)) e) ∙ c.loop-b.invariant.1)
+    rw c.from_residual.ensures (carried-none (number-carried c.args.base) _ _ _ c.loop-b-test.true (ap (option_map (λ (d : ℕ). c.args.base * c.loop-b.n + d)) e) ∙ c.loop-b.invariant.1)
 
 pub returns : goal.returns
-unfolding all_digits whole_from
+unfolding each_digit value_from
 returns c = sym (at_drop_all (number_from c.args.base c.loop-b.n) _ _ c.loop-b-test.false) ∙ c.loop-b.invariant.1
