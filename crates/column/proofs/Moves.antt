@@ -8,6 +8,7 @@ use mathlib.Core.Logic.{◌⊎◌, inl, inr}
 use mathlib.Core.List.{List, [], ◌∷◌, ◌++◌, append_assoc}
 use lib.ListN.{length, take, drop, get_or, set, length-drop, length-set, drop_of_length-le}
 use lib.Seq.{slice, paste, paste-zero, paste-suc, length-paste, take-paste, drop-paste, take_at, drop_at, take-nil, take-take, take-add, drop-drop, get_or-drop, take-suc, length-take-le}
+use Rattle.std.specs.List.{copy_within}
 use Rattle.std.proofs.lemmas.List.{take_more_set}
 use Rattle.ieee.proofs.Round.{split}
 use Rattle.column.specs.Entries.{filled, zero_from, moved, move_front}
@@ -87,6 +88,13 @@ module _ {A : Type 0} where
   pub block-moved : (l b : List A) (i j n : ℕ) → take n b ≡ take n (drop j l) → paste l i b n ≡ moved i j n l
   unfolding moved
   block-moved l b i j n e = ap (λ (x : List A). take i l ++ x ++ drop (i + n) l) e
+
+  -- std's word for the same
+  pub copied-within : (l : List A) (i j n : ℕ) → copy_within l j (j + n) i ≡ moved i j n l
+  unfolding moved
+  copied-within l i j n =
+      let e : j + n - j ≡ n = omega arith in
+      ap (λ (k : ℕ). moved i j k l) e
 
   pub moved_none : (i j : ℕ) (l : List A) → moved i j 0 l ≡ l
   unfolding moved

@@ -13,6 +13,24 @@ pub trait Entry: Copy {
     fn zero() -> Self
         ensures { result ≡ zero };
 
+    // Moves n entries from j on down to i.
+    fn move_down(col: &mut [Self], i: usize, j: usize, n: usize)
+        requires i_le_j { i ≤ j }
+        requires source { j + n ≤ length col.old }
+        ensures { col.new ≡ moved i j n col.old }
+    {
+        move_at_once(col, i, j, n);
+    }
+
+    // Moves n entries from j on up to i.
+    fn move_up(col: &mut [Self], i: usize, j: usize, n: usize)
+        requires j_le_i { j ≤ i }
+        requires target { i + n ≤ length col.old }
+        ensures { col.new ≡ moved i j n col.old }
+    {
+        move_at_once(col, i, j, n);
+    }
+
     // A copy is always made, and is the same.
     ghost always_copied: { (x : Self) → Self.is_infallible x };
 
@@ -26,6 +44,14 @@ impl Entry for f64 {
         0.0
     }
 
+    fn move_down(col: &mut [f64], i: usize, j: usize, n: usize) {
+        blocks_down(col, 0.0, i, j, n);
+    }
+
+    fn move_up(col: &mut [f64], i: usize, j: usize, n: usize) {
+        blocks_up(col, 0.0, i, j, n);
+    }
+
     ghost always_copied = { Prim.search rules };
 
     ghost same_copied = { Prim.search rules };
@@ -36,6 +62,14 @@ impl Entry for u32 {
 
     fn zero() -> u32 {
         0
+    }
+
+    fn move_down(col: &mut [u32], i: usize, j: usize, n: usize) {
+        blocks_down(col, 0, i, j, n);
+    }
+
+    fn move_up(col: &mut [u32], i: usize, j: usize, n: usize) {
+        blocks_up(col, 0, i, j, n);
     }
 
     ghost always_copied = { Prim.search rules };
@@ -68,15 +102,24 @@ pub fn zero_from<T: Entry>(col: &mut [T], from: usize)
     }
 }
 
+// Moves n entries from j on to i.
+fn move_at_once<T: Copy>(col: &mut [T], i: usize, j: usize, n: usize)
+    requires target { i + n ≤ length col.old }
+    requires source { j + n ≤ length col.old }
+    ensures { col.new ≡ moved i j n col.old }
+{
+    col.copy_within(j..j + n, i);
+}
+
 // Moves n entries, at most 256, from j on to i. All are read before the first is stored, so the places may overlap; the two
 // copies compile to one memmove.
-fn move_block<T: Entry>(col: &mut [T], i: usize, j: usize, n: usize)
+fn move_block<T: Copy>(col: &mut [T], z: T, i: usize, j: usize, n: usize)
     requires few { n ≤ 256 }
     requires target { i + n ≤ length col.old }
     requires source { j + n ≤ length col.old }
     ensures { col.new ≡ moved i j n col.old }
 {
-    let mut block = [T::zero(); 256];
+    let mut block = [z; 256];
     for k in 0..n {
         block[k] = col[j + k];
     }
@@ -86,7 +129,7 @@ fn move_block<T: Entry>(col: &mut [T], i: usize, j: usize, n: usize)
 }
 
 // Moves n entries from j on down to i, the first block first.
-fn move_down<T: Entry>(col: &mut [T], i: usize, j: usize, n: usize)
+fn blocks_down<T: Copy>(col: &mut [T], z: T, i: usize, j: usize, n: usize)
     requires i_le_j { i ≤ j }
     requires source { j + n ≤ length col.old }
     ensures { col.new ≡ moved i j n col.old }
@@ -94,13 +137,13 @@ fn move_down<T: Entry>(col: &mut [T], i: usize, j: usize, n: usize)
     let mut k = 0;
     while k < n {
         let m = (n - k).min(256);
-        move_block(&mut *col, i + k, j + k, m);
+        move_block(&mut *col, z, i + k, j + k, m);
         k += m;
     }
 }
 
 // Moves n entries from j on up to i, the last block first.
-fn move_up<T: Entry>(col: &mut [T], i: usize, j: usize, n: usize)
+fn blocks_up<T: Copy>(col: &mut [T], z: T, i: usize, j: usize, n: usize)
     requires j_le_i { j ≤ i }
     requires target { i + n ≤ length col.old }
     ensures { col.new ≡ moved i j n col.old }
@@ -109,7 +152,7 @@ fn move_up<T: Entry>(col: &mut [T], i: usize, j: usize, n: usize)
     while 0 < k {
         let m = k.min(256);
         k -= m;
-        move_block(&mut *col, i + k, j + k, m);
+        move_block(&mut *col, z, i + k, j + k, m);
     }
 }
 
@@ -119,7 +162,7 @@ pub fn move_front<T: Entry>(col: &mut [T], from: usize, to: usize)
 {
     let end = to.min(col.len());
     let first = from.min(end);
-    move_down(&mut *col, 0, first, end - first);
+    T::move_down(&mut *col, 0, first, end - first);
     zero_from(col, end - first);
 }
 
@@ -128,7 +171,7 @@ pub fn open_gap<T: Entry>(col: &mut [T], at: usize, end: usize, w: usize)
     ensures { col.new ≡ open_gap at end w col.old }
 {
     if (at <= end) && (end <= col.len()) && (w <= col.len() - end) {
-        move_up(&mut *col, at + w, at, end - at);
+        T::move_up(&mut *col, at + w, at, end - at);
     }
 }
 
@@ -137,7 +180,7 @@ pub fn close_gap<T: Entry>(col: &mut [T], at: usize, end: usize, w: usize)
     ensures { col.new ≡ close_gap T.zero at end w col.old }
 {
     if (end <= col.len()) && (at <= end) && (w <= end - at) {
-        move_down(&mut *col, at, at + w, end - at - w);
+        T::move_down(&mut *col, at, at + w, end - at - w);
         col[end - w..end].fill(T::zero());
     }
 }

@@ -1,7 +1,7 @@
--- `move_down`: at each turn the first k entries are moved.
+-- `blocks_down`: at each turn the first k entries are moved.
 use native.Mathlib.Omega.{arith}
 use Rattle.column.proofs.Moves.{downed-none, downed-more, downed-all}
-use Rattle.column.proofs.entries.move_down.Goals as goal
+use Rattle.column.proofs.entries.blocks_down.Goals as goal
 
 pub loop-k-init : goal.loop-k-init
 loop-k-init g c = downed-none

@@ -1,7 +1,7 @@
--- `move_down`: at each turn the first k entries are moved.
+-- `blocks_down`: at each turn the first k entries are moved.
 use Prim.Native.Nat.{◌-◌}
 use Rattle.column.proofs.Moves.{Downed}
-use Rattle.column.proofs.entries.move_down.Given as goal
+use Rattle.column.proofs.entries.blocks_down.Given as goal
 
 abbrev pub invariant-loop-k : goal.invariant-loop-k
 invariant-loop-k g l = Downed l.initial.col l.i l.j l.n l.col l.k

@@ -1,8 +1,8 @@
--- `move_up`: at each turn the entries past the first k are moved.
+-- `blocks_up`: at each turn the entries past the first k are moved.
 use mathlib.Core.Path.{refl, ◌∙◌}
 use native.Mathlib.Omega.{arith}
 use Rattle.column.proofs.Moves.{up_start, up_more, up_done}
-use Rattle.column.proofs.entries.move_up.Goals as goal
+use Rattle.column.proofs.entries.blocks_up.Goals as goal
 
 pub loop-k-init : goal.loop-k-init
 loop-k-init g c = (refl, omega arith, up_start _ _ _ _)
